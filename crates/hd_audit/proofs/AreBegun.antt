@@ -50,7 +50,8 @@ AreBegun-none m kept seen lines blank empty =
     }
 
 -- one more kept pit
-pub AreBegun-more : (m : Map) (kept : List Kept) (n : ℕ) (seen : List Bool) (lines : List AuditLine) → All (λ (k : Kept). IsPoint m k.pit) kept → AllPairs (λ (a : Kept) (b : Kept). a.pit.index < b.pit.index) kept → n < length kept → AreBegun m kept n seen lines
+pub AreBegun-more : (m : Map) (kept : List Kept) (n : ℕ) (seen : List Bool) (lines : List AuditLine) → All (λ (k : Kept). IsPoint m k.pit) kept
+    → AllPairs (λ (a : Kept) (b : Kept). a.pit.index < b.pit.index) kept → n < length kept → AreBegun m kept n seen lines
     → AreBegun m kept (n + 1) (set seen (get_or kept n kept-none).pit.index true) (lines ++ kept_line (get_or kept n kept-none) ∷ [])
 AreBegun-more m kept n seen lines points in_order inside b =
     let k : Kept = get_or kept n kept-none in
@@ -90,7 +91,8 @@ AreBegun-more m kept n seen lines points in_order inside b =
     }
 
 -- none waits yet
-pub AreBegun-flooding : {S : Type 0} (m : Map) (kept : List Kept) (n : ℕ) (seen : List Bool) (lines : List AuditLine) (heap : List (Waiting S)) → length heap ≡ 0 → AreBegun m kept n seen lines → IsFlooding m lines seen heap 0
+pub AreBegun-flooding : {S : Type 0} (m : Map) (kept : List Kept) (n : ℕ) (seen : List Bool) (lines : List AuditLine) (heap : List (Waiting S)) → length heap ≡ 0
+    → AreBegun m kept n seen lines → IsFlooding m lines seen heap 0
 AreBegun-flooding m kept n seen lines [] e b = record {
   whole = b.whole;
   room = (let room = b.room in omega (arith, room));
@@ -104,14 +106,16 @@ AreBegun-flooding m kept n seen lines [] e b = record {
 AreBegun-flooding m kept n seen lines (w ∷ heap) e b = absurd (omega (arith, e))
 
 -- the lines are of present points
-pub AreBegun-points : (m : Map) (kept : List Kept) (seen : List Bool) (lines : List AuditLine) → All (λ (k : Kept). IsPoint m k.pit) kept → AreBegun m kept (length kept) seen lines → (k : ℕ) → k < length lines → IsPointAt m (line_at lines k).index
+pub AreBegun-points : (m : Map) (kept : List Kept) (seen : List Bool) (lines : List AuditLine) → All (λ (k : Kept). IsPoint m k.pit) kept → AreBegun m kept (length kept) seen lines
+    → (k : ℕ) → k < length lines → IsPointAt m (line_at lines k).index
 AreBegun-points m kept seen lines points b k less =
     let many = b.many in
     let inside : k < length kept = omega (arith, less, many) in
     subst (λ (x : AuditLine). IsPointAt m x.index) (sym (b.are k kept-none inside)) (IsPointAt-point m (get_or kept k kept-none).pit (points k kept-none inside))
 
 -- the first lines are as they are shown
-pub AreBegun-shown : (m : Map) (side : SideName) (thousandths : ℕ) (sz : ℤ) (kept : List Kept) (seen : List Bool) (lines : List AuditLine) → All (λ (k : Kept). IsPoint m k.pit) kept → AreBegun m kept (length kept) seen lines
+pub AreBegun-shown : (m : Map) (side : SideName) (thousandths : ℕ) (sz : ℤ) (kept : List Kept) (seen : List Bool) (lines : List AuditLine)
+    → All (λ (k : Kept). IsPoint m k.pit) kept → AreBegun m kept (length kept) seen lines
     → AreShownTo m side thousandths sz (pits_kept kept) lines (length lines)
 AreBegun-shown m side thousandths sz kept seen lines points b =
     let all : length (pits_kept kept) ≡ length kept = length-map kept (λ (k : Kept). k.pit) in

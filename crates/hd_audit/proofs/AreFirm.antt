@@ -20,7 +20,8 @@ use Rattle.hd_map.proofs.Points.{Near-to, Near-apart}
 use Rattle.hd_map.proofs.Saddles.{saddle-exists, saddle-above_pit}
 use Rattle.hd_map.proofs.Order.{compare, below-apart, below-not_above}
 use Rattle.hd_audit.specs.Rules.{IsWithin}
-use Rattle.hd_audit.proofs.Within.{IsWithin-lower, IsWithin-higher, goes-within, Reach-first_step, StepsWithin, ReachesWithin, ReachesWithin-points, ReachesWithin-more, ReachesWithin-last, ReachesWithin-point, ReachesWithin-back, ReachesWithin-higher}
+use Rattle.hd_audit.proofs.Within.{IsWithin-lower, IsWithin-higher, goes-within, Reach-first_step, StepsWithin, ReachesWithin, ReachesWithin-points}
+use Rattle.hd_audit.proofs.Within.{ReachesWithin-more, ReachesWithin-last, ReachesWithin-point, ReachesWithin-back, ReachesWithin-higher}
 
 -- the pits that no pit undercuts
 abbrev pub AreFirm : Map → SideName → ℕ → ℤ → List Rank → Type 0
@@ -88,7 +89,8 @@ module _ (m : Map) (side : SideName) (thousandths : ℕ) (sz : ℤ) where
   ]
 
   -- and undercuts it
-  undercuts-where_both : (r q x : Rank) → IsPit m side r → IsPit m side q → below_by side q r ≡ true → ReachesWithin m side thousandths sz r r x → ReachesWithin m side thousandths sz q q x → Undercuts m side thousandths sz q r
+  undercuts-where_both : (r q x : Rank) → IsPit m side r → IsPit m side q → below_by side q r ≡ true → ReachesWithin m side thousandths sz r r x
+      → ReachesWithin m side thousandths sz q q x → Undercuts m side thousandths sz q r
   undercuts-where_both r q x pit pit' lower mine yours =
       let w = pit-within r q x pit' lower mine yours in
       let back = ReachesWithin-back m side thousandths sz r w (ReachesWithin-higher m side thousandths sz q r (below-not_above (below_by side) (below_by-order side) q r lower) yours) in
@@ -126,7 +128,8 @@ module _ (m : Map) (side : SideName) (thousandths : ℕ) (sz : ℤ) where
       | false ↦ λ e. refl
     ] refl
 
-    digs : (Q : Rank → Type 0) → ((p q : Rank) → IsPit m side p → Q p → Undercuts m side thousandths sz q p → Q q) → ((r : Rank) → Contains kept r → Q r → ⊥) → (n : ℕ) (p : Rank) → IsPit m side p → depth_by side p < n → Q p → ⊥
+    digs : (Q : Rank → Type 0) → ((p q : Rank) → IsPit m side p → Q p → Undercuts m side thousandths sz q p → Q q) → ((r : Rank) → Contains kept r → Q r → ⊥) → (n : ℕ) (p : Rank)
+        → IsPit m side p → depth_by side p < n → Q p → ⊥
     digs Q go stop zero p pit less q = omega (arith, less)
     digs Q go stop (suc n) p pit less q = stop p ((firm p).1 (
       pit,
@@ -136,5 +139,6 @@ module _ (m : Map) (side : SideName) (thousandths : ℕ) (sz : ℤ) where
     )) q
 
     -- what each pit hands on to those that undercut it, and holds of no kept pit, holds of no pit
-    pub Undercuts-none : (Q : Rank → Type 0) → ((p q : Rank) → IsPit m side p → Q p → Undercuts m side thousandths sz q p → Q q) → ((r : Rank) → Contains kept r → Q r → ⊥) → (p : Rank) → IsPit m side p → Q p → ⊥
+    pub Undercuts-none : (Q : Rank → Type 0) → ((p q : Rank) → IsPit m side p → Q p → Undercuts m side thousandths sz q p → Q q) → ((r : Rank) → Contains kept r → Q r → ⊥)
+        → (p : Rank) → IsPit m side p → Q p → ⊥
     Undercuts-none Q go stop p pit q = digs Q go stop (suc (depth_by side p)) p pit (omega arith) q

@@ -81,7 +81,8 @@ module _ (m : Map) (side : SideName) (thousandths : ℕ) (sz : ℤ) (lines : Lis
       → (((line_at lines n).parent ≡ None → ⊥) × IsPit m side (rank_at m (line_at lines n).index) × (IsWithin side thousandths sz (rank_at m (line_at lines n).index) top → ⊥) → ⊥) → IsRightAt n
   IsRightAt-where n top is near = λ parent pit.
       (let own : Rank = rank_at m (line_at lines n).index in
-      elim (is_percent_less (rise_over side own top) thousandths sz) as (λ (b : Bool). is_percent_less (rise_over side own top) thousandths sz ≡ b → IsChainWithin m side thousandths sz lines (line_at lines n).index) [
+      elim (is_percent_less (rise_over side own top) thousandths sz) as (λ (b : Bool). is_percent_less (rise_over side own top) thousandths sz ≡ b
+      → IsChainWithin m side thousandths sz lines (line_at lines n).index) [
         | true ↦ λ e. IsChainWithin-top (line_at lines n).index top is e
         | false ↦ λ e. absurd (near (parent, pit, λ w. false≢true (sym e ∙ w)))
       ] refl)
@@ -92,7 +93,11 @@ module _ (m : Map) (side : SideName) (lines : List AuditLine) where
   IsChainTop-alone i kept = record {
     chain = [];
     are_parents = kept;
-    is_top = record { one_of = Contains-head (rank_at m i) []; none_above = All-cons (λ x. IsNotAbove (below_by side) x (rank_at m i)) (rank_at m i) [] (not_above-refl (below_by side) (below_by-order side) (rank_at m i)) (All-nil (λ x. IsNotAbove (below_by side) x (rank_at m i))) };
+    is_top = record {
+      one_of = Contains-head (rank_at m i) [];
+      none_above = All-cons (λ x. IsNotAbove (below_by side) x (rank_at m i)) (rank_at m i) [] (not_above-refl
+          (below_by side) (below_by-order side) (rank_at m i)) (All-nil (λ x. IsNotAbove (below_by side) x (rank_at m i)));
+    };
   }
 
   -- a point before a chain
@@ -110,7 +115,8 @@ module _ (m : Map) (side : SideName) (lines : List AuditLine) where
           }
           | false ↦ λ e. record {
             one_of = Contains-head own ranks;
-            none_above = All-cons (λ y. IsNotAbove (below_by side) y own) own ranks (not_above-refl (below_by side) (below_by-order side) own) (none_above-higher (below_by side) (below_by-order side) top own ranks e up.is_top.none_above);
+            none_above = All-cons (λ y. IsNotAbove (below_by side) y own) own ranks (not_above-refl (below_by side) (below_by-order side) own)
+                (none_above-higher (below_by side) (below_by-order side) top own ranks e up.is_top.none_above);
           }
         ] refl;
       }
@@ -119,7 +125,8 @@ module _ (m : Map) (side : SideName) (lines : List AuditLine) where
   pub IsTopHeight-alone : (i : ℕ) → SaysKept lines i → IsTopHeight m side lines i (rank_at m i).height
   IsTopHeight-alone i kept = record { top = rank_at m i; is_top = IsChainTop-alone i kept; height_is = refl }
 
-  pub IsTopHeight-higher : (i p : ℕ) (x : AuditLine) (height : ℤ) → IsLineOf lines i x → x.parent ≡ Some p → IsTopHeight m side lines p height → IsTopHeight m side lines i (higher_height side (rank_at m i).height height)
+  pub IsTopHeight-higher : (i p : ℕ) (x : AuditLine) (height : ℤ) → IsLineOf lines i x → x.parent ≡ Some p → IsTopHeight m side lines p height
+      → IsTopHeight m side lines i (higher_height side (rank_at m i).height height)
   IsTopHeight-higher i p x height is parent up = record {
     top = higher_by side (rank_at m i) up.top;
     is_top = IsChainTop-higher i p x up.top is parent up.is_top;
@@ -155,7 +162,8 @@ module _ (m : Map) (side : SideName) (lines : List AuditLine) where
         ap₂ (λ (x : ℕ) (xs : List ℕ). x ∷ xs) same (one_chain q ps qs (subst (λ (j : ℕ). AreParents lines j ps) same a.3) b.3)
 
     one_top : (t u : Rank) (xs : List Rank) → IsTop (below_by side) t xs → IsTop (below_by side) u xs → t ≡ u
-    one_top t u xs a b = (below_by-order side).total t u (top-not_above (below_by side) (below_by-order side) u t xs b a.none_above) (top-not_above (below_by side) (below_by-order side) t u xs a b.none_above)
+    one_top t u xs a b = (below_by-order side).total t u (top-not_above (below_by side) (below_by-order side) u t xs b a.none_above)
+        (top-not_above (below_by side) (below_by-order side) t u xs a b.none_above)
 
     -- and one highest point on it
     pub IsChainTop-unique : (i : ℕ) (t u : Rank) → IsChainTop m side lines i t → IsChainTop m side lines i u → t ≡ u
@@ -164,6 +172,8 @@ module _ (m : Map) (side : SideName) (lines : List AuditLine) where
         one_top t u (map (rank_at m) (i ∷ b.chain)) (subst (λ (ps : List ℕ). IsTop (below_by side) t (map (rank_at m) (i ∷ ps))) same a.is_top) b.is_top
 
     -- the chain is not within its point where the highest point is not
-    pub IsChainWithin-not : (thousandths : ℕ) (sz : ℤ) (i : ℕ) (top : Rank) → IsChainTop m side lines i top → (IsWithin side thousandths sz (rank_at m i) top → ⊥) → IsChainWithin m side thousandths sz lines i → ⊥
+    pub IsChainWithin-not : (thousandths : ℕ) (sz : ℤ) (i : ℕ) (top : Rank) → IsChainTop m side lines i top → (IsWithin side thousandths sz (rank_at m i) top → ⊥)
+        → IsChainWithin m side thousandths sz lines i → ⊥
     IsChainWithin-not thousandths sz i top is far chain =
-        far (subst (IsWithin side thousandths sz (rank_at m i)) (IsChainTop-unique i chain.top top (record { chain = chain.chain; are_parents = chain.are_parents; is_top = chain.is_top }) is) chain.within)
+        far (subst (IsWithin side thousandths sz (rank_at m i)) (IsChainTop-unique i chain.top top
+        (record { chain = chain.chain; are_parents = chain.are_parents; is_top = chain.is_top }) is) chain.within)

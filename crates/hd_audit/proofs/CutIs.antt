@@ -44,7 +44,8 @@ module _ (m : Map) (whole : IsMap m) (side : SideName) (thousandths : ℕ) (sz :
   CutIs-unique x None (Some d) h k = absurd (h k.0 k.1 k.3)
   CutIs-unique x (Some c) None h k = absurd (k h.0 h.1 h.3)
   CutIs-unique x (Some c) (Some d) h k =
-      let same : h.0 ≡ k.0 = ReachesWithin-apart m side thousandths sz whole kept firm h.0 k.0 x h.1 k.1 (ReachesWithin-from_reached m side thousandths sz h.0 x h.3) (ReachesWithin-from_reached m side thousandths sz k.0 x k.3) in
+      let same : h.0 ≡ k.0 = ReachesWithin-apart m side thousandths sz whole kept firm h.0 k.0 x h.1 k.1 (ReachesWithin-from_reached m side thousandths sz h.0 x h.3)
+      (ReachesWithin-from_reached m side thousandths sz k.0 x k.3) in
       same_number c d (sym h.2 ∙ ap (λ (r : Rank). r.index) same ∙ k.2)
 
   module _ (lines : List AuditLine) (n : ℕ) (so : AreShownTo m side thousandths sz kept lines n) where
@@ -60,7 +61,8 @@ module _ (m : Map) (whole : IsMap m) (side : SideName) (thousandths : ℕ) (sz :
       near-parent = Near-at m x (point_at m lines j) near
 
       -- a kept pit that reaches an unlisted point reaches the point of a line that is near it
-      cut-back : (c : Rank) → Contains kept c → ReachesWithin m side thousandths sz c c (rank m x) → IsWithin side thousandths sz c (rank m x) × ReachesWithin m side thousandths sz c c (rank_at m (line_at lines j).index)
+      cut-back : (c : Rank) → Contains kept c → ReachesWithin m side thousandths sz c c (rank m x) → IsWithin side thousandths sz c (rank m x)
+          × ReachesWithin m side thousandths sz c c (rank_at m (line_at lines j).index)
       cut-back c at reach =
           let among : IsAmong lines n c.index = IsAmong-kept m side thousandths sz kept lines n so.enough so.pits c at in
           let within : IsWithin side thousandths sz c (rank m x) = elim (ReachesWithin-last m side thousandths sz c reach) [
@@ -80,14 +82,21 @@ module _ (m : Map) (whole : IsMap m) (side : SideName) (thousandths : ℕ) (sz :
           (within, ReachesWithin-more m side thousandths sz c c (rank m x) y reach near-parent w)
 
       -- within the cut of the line it is in that cut
-      pub CutIs-same : (c : ℕ) → CutIs m side thousandths sz kept (rank_at m (line_at lines j).index) (Some c) → IsWithin side thousandths sz (rank_at m c) (rank m x) → CutIs m side thousandths sz kept (rank m x) (Some c)
+      pub CutIs-same : (c : ℕ) → CutIs m side thousandths sz kept (rank_at m (line_at lines j).index) (Some c) → IsWithin side thousandths sz (rank_at m c) (rank m x)
+          → CutIs m side thousandths sz kept (rank m x) (Some c)
       CutIs-same c h within =
           let y : Rank = rank_at m (line_at lines j).index in
-          let w = subst (λ (r : Rank). IsWithin side thousandths sz r (rank m x)) (rank_at-kept c h.0 h.1 h.2) within in
-          (h.0, h.1, h.2, IsReachedWithin-from_reach m side thousandths sz h.0 (rank m x) (ReachesWithin-more m side thousandths sz h.0 h.0 y (rank m x) (ReachesWithin-from_reached m side thousandths sz h.0 y h.3) (near-sym m (rank m x) y near-parent) w))
+          let w = subst (λ (r : Rank). IsWithin side thousandths sz r (rank m x)) (rank_at-kept c h.0 h.1 h.2) within in (
+            h.0,
+            h.1,
+            h.2,
+            IsReachedWithin-from_reach m side thousandths sz h.0 (rank m x)
+                (ReachesWithin-more m side thousandths sz h.0 h.0 y (rank m x) (ReachesWithin-from_reached m side thousandths sz h.0 y h.3) (near-sym m (rank m x) y near-parent) w),
+          )
 
       -- else it is in none
-      pub CutIs-left : (c : ℕ) → CutIs m side thousandths sz kept (rank_at m (line_at lines j).index) (Some c) → (IsWithin side thousandths sz (rank_at m c) (rank m x) → ⊥) → CutIs m side thousandths sz kept (rank m x) None
+      pub CutIs-left : (c : ℕ) → CutIs m side thousandths sz kept (rank_at m (line_at lines j).index) (Some c) → (IsWithin side thousandths sz (rank_at m c) (rank m x) → ⊥)
+          → CutIs m side thousandths sz kept (rank m x) None
       CutIs-left c h outside = λ r at reached.
           let y : Rank = rank_at m (line_at lines j).index in
           let back = cut-back r at (ReachesWithin-from_reached m side thousandths sz r (rank m x) reached) in

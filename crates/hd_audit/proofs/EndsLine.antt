@@ -45,7 +45,8 @@ EndsLine-feed front = λ more.
     ∙ ap (λ (ls : List (List ℕ)). ls ++ lines_of more) (sym (lines_of-joined front [] ∙ append-nil (slice_split is_line_feed front)))
 
 -- a text is cut behind a line feed
-pub IsCutAfterLine-found : (text first rest : List ℕ) (place : ℕ) → place < length text → get_or text place 0 ≡ 10 → first ≡ take (place + 1) text → rest ≡ drop (place + 1) text → IsCutAfterLine text first rest
+pub IsCutAfterLine-found : (text first rest : List ℕ) (place : ℕ) → place < length text → get_or text place 0 ≡ 10 → first ≡ take (place + 1) text → rest ≡ drop (place + 1) text
+    → IsCutAfterLine text first rest
 IsCutAfterLine-found text first rest place inside feed is_first is_rest = record {
   whole = sym (ap₂ (λ (xs ys : List ℕ). xs ++ ys) is_first is_rest ∙ take-append-drop (place + 1) text);
   ends = λ front. subst EndsLine (append_assoc front (take place text) (10 ∷ []) ∙ ap (λ (xs : List ℕ). front ++ xs) (sym first_ends)) (EndsLine-feed (front ++ take place text));

@@ -28,7 +28,8 @@ module _ {S : Type 0} (m : Map) where
 
   module _ (lines : List AuditLine) (from : ℕ) (inside : from < length lines) (at : Pos) (is_at : point_at m lines from ≡ at) where
     -- an unseen neighbour waits
-    pub IsFlooding-add : (seen : List Bool) (heap heap' : List (Waiting S)) (q : Pos) → Neighbour m at q → seen_at seen (place_of m.size q) ≡ false → Adds m q from heap heap' → IsFlooding m lines seen heap from
+    pub IsFlooding-add : (seen : List Bool) (heap heap' : List (Waiting S)) (q : Pos) → Neighbour m at q → seen_at seen (place_of m.size q) ≡ false → Adds m q from heap heap'
+        → IsFlooding m lines seen heap from
         → IsFlooding m lines (set seen (place_of m.size q) true) heap' from
     IsFlooding-add seen heap heap' q near free adds f =
         let w : Waiting S = adds.added in
@@ -39,7 +40,8 @@ module _ {S : Type 0} (m : Map) where
         let index : w.index ≡ i = waiting-index w q adds.rank_is in
         let old : (v : Waiting S) → Contains heap v → Contains heap' v = λ v h. Contains-permutation (w ∷ heap) heap' v adds.moved (Contains-tail w v heap h) in
         let new : Contains heap' w = Contains-permutation (w ∷ heap) heap' w adds.moved (Contains-head w heap) in
-        let cases : (v : Waiting S) → Contains heap' v → (v ≡ w) ⊎ Contains heap v = λ v h. Contains-cases w v heap (Contains-permutation heap' (w ∷ heap) v (IsPermutation-sym (w ∷ heap) heap' adds.moved) h) in
+        let cases : (v : Waiting S) → Contains heap' v → (v ≡ w) ⊎ Contains heap v = λ v h. Contains-cases w v heap
+        (Contains-permutation heap' (w ∷ heap) v (IsPermutation-sym (w ∷ heap) heap' adds.moved) h) in
         let longer = length_permutation (w ∷ heap) heap' adds.moved in
         let less = seen_at-fewer_unseen seen i cell free in
         record {
@@ -83,7 +85,8 @@ module _ {S : Type 0} (m : Map) where
         }
 
     -- all neighbours are seen
-    pub IsFlooding-on : (seen : List Bool) (heap : List (Waiting S)) → ((q : Pos) → Neighbour m at q → seen_at seen (place_of m.size q) ≡ true) → IsFlooding m lines seen heap from → IsFlooding m lines seen heap (from + 1)
+    pub IsFlooding-on : (seen : List Bool) (heap : List (Waiting S)) → ((q : Pos) → Neighbour m at q → seen_at seen (place_of m.size q) ≡ true) → IsFlooding m lines seen heap from
+        → IsFlooding m lines seen heap (from + 1)
     IsFlooding-on seen heap all f =
         record {
           whole = f.whole;
@@ -102,7 +105,8 @@ module _ {S : Type 0} (m : Map) where
         }
 
   -- the lines with one more, that of a point that waited
-  module _ (lines : List AuditLine) (seen : List Bool) (heap rest : List (Waiting S)) (w : Waiting S) (x : AuditLine) (f : IsFlooding m lines seen heap (length lines)) (popped : IsPermutation heap (w ∷ rest)) (index : x.index ≡ w.index) where
+  module _ (lines : List AuditLine) (seen : List Bool) (heap rest : List (Waiting S)) (w : Waiting S) (x : AuditLine) (f : IsFlooding m lines seen heap (length lines))
+      (popped : IsPermutation heap (w ∷ rest)) (index : x.index ≡ w.index) where
     rest-in : (v : Waiting S) → Contains rest v → Contains heap v
     rest-in v h = Contains-permutation (w ∷ rest) heap v (IsPermutation-sym heap (w ∷ rest) popped) (Contains-tail w v rest h)
 
@@ -122,12 +126,18 @@ module _ {S : Type 0} (m : Map) where
           room = omega (arith, room, longer, shorter);
           listed = λ k before. elim (cases_lt k (length lines)) [
             | inl old ↦ subst (λ (y : AuditLine). seen_at seen y.index ≡ true) (sym (line_at-push_old lines x k old)) (f.listed k old)
-            | inr last ↦ subst (λ (y : AuditLine). seen_at seen y.index ≡ true) (sym (line_at-push_new lines x k (omega (arith, before, last, longer)))) (subst (λ i. seen_at seen i ≡ true) (sym index) (f.waits_seen w Contains-popped))
+            | inr last ↦ subst (λ (y : AuditLine). seen_at seen y.index ≡ true) (sym (line_at-push_new lines x k (omega (arith, before, last, longer))))
+                (subst (λ i. seen_at seen i ≡ true) (sym index) (f.waits_seen w Contains-popped))
           ];
           found = λ i h. elim (f.found i h) [
             | inl l ↦ inl (l.0, (let less = l.1 in omega (arith, less, longer)), ap (λ (y : AuditLine). y.index) (line_at-push_old lines x l.0 l.1) ∙ l.2)
             | inr v ↦ elim (Contains-cases w v.0 rest (Contains-permutation heap (w ∷ rest) v.0 popped v.1)) [
-              | inl same ↦ inl (length lines, omega (arith, longer), ap (λ (y : AuditLine). y.index) (line_at-push_new lines x (length lines) refl) ∙ index ∙ ap (λ (z : Waiting S). z.index) (sym same) ∙ v.2)
+              | inl same ↦ inl (
+                length lines,
+                omega (arith, longer),
+                ap (λ (y : AuditLine). y.index) (line_at-push_new lines x (length lines) refl) ∙ index
+                    ∙ ap (λ (z : Waiting S). z.index) (sym same) ∙ v.2,
+              )
               | inr later ↦ inr (v.0, later, v.2)
             ]
           ];

@@ -38,11 +38,13 @@ over-unless_under side (Some l) x apart h = elim (compare (below_by side) (below
 
 module _ {S : Type 0} (m : Map) (side : SideName) (lines : List AuditLine) (level : Option Rank) where
   module _ (from : ℕ) (inside : from < length lines) (at : Pos) (is_at : point_at m lines from ≡ at) where
-    pub IsSpreading-begin : (seen : List Bool) (ahead : List (Option ℕ)) (low : List (Waiting S)) → IsFront m side lines level seen ahead low from → IsSpreading m side lines level seen ahead low from []
+    pub IsSpreading-begin : (seen : List Bool) (ahead : List (Option ℕ)) (low : List (Waiting S)) → IsFront m side lines level seen ahead low from
+        → IsSpreading m side lines level seen ahead low from []
     IsSpreading-begin seen ahead low f = record { front = f; all_seen = λ q h. absurd (let none : h.0 < 0 = h.1 in omega arith) }
 
     -- an unseen neighbour below the level is put into the heap
-    front-low : (seen : List Bool) (ahead : List (Option ℕ)) (low low' : List (Waiting S)) (q : Pos) → Neighbour m at q → seen_at seen (place_of m.size q) ≡ false → is_under (below_by side) level (rank m q) ≡ true → Adds m q from low low'
+    front-low : (seen : List Bool) (ahead : List (Option ℕ)) (low low' : List (Waiting S)) (q : Pos) → Neighbour m at q → seen_at seen (place_of m.size q) ≡ false
+        → is_under (below_by side) level (rank m q) ≡ true → Adds m q from low low'
         → IsFront m side lines level seen ahead low from → IsFront m side lines level (set seen (place_of m.size q) true) ahead low' from
     front-low seen ahead low low' q near free below adds f =
         let w : Waiting S = adds.added in
@@ -55,7 +57,8 @@ module _ {S : Type 0} (m : Map) (side : SideName) (lines : List AuditLine) (leve
           noted = f.noted;
           only = f.only;
           under = λ v h. elim (Contains-cases w v low (Contains-permutation low' (w ∷ low) v (IsPermutation-sym (w ∷ low) low' adds.moved) h)) [
-            | inl same ↦ subst (λ (z : Waiting S). is_under (below_by side) level (rank_of_waiting z) ≡ true) (sym same) (subst (λ (r : Rank). is_under (below_by side) level r ≡ true) (sym adds.rank_is) below)
+            | inl same ↦ subst (λ (z : Waiting S). is_under (below_by side) level (rank_of_waiting z) ≡ true) (sym same)
+                (subst (λ (r : Rank). is_under (below_by side) level r ≡ true) (sym adds.rank_is) below)
             | inr old ↦ f.under v old
           ];
           over = f.over;
@@ -63,7 +66,8 @@ module _ {S : Type 0} (m : Map) (side : SideName) (lines : List AuditLine) (leve
         }
 
     -- another is noted
-    front-high : (seen : List Bool) (ahead : List (Option ℕ)) (low : List (Waiting S)) (q : Pos) → Neighbour m at q → seen_at seen (place_of m.size q) ≡ false → is_under (below_by side) level (rank m q) ≡ false
+    front-high : (seen : List Bool) (ahead : List (Option ℕ)) (low : List (Waiting S)) (q : Pos) → Neighbour m at q → seen_at seen (place_of m.size q) ≡ false
+        → is_under (below_by side) level (rank m q) ≡ false
         → IsFront m side lines level seen ahead low from → IsFront m side lines level (set seen (place_of m.size q) true) (set ahead (place_of m.size q) (Some from)) low from
     front-high seen ahead low q near free above f =
         let i : ℕ = place_of m.size q in
@@ -71,7 +75,8 @@ module _ {S : Type 0} (m : Map) (side : SideName) (lines : List AuditLine) (leve
         let cells = place_inside m.size q near.to.in_grid in
         let cell : i < length seen = (let whole = f.flooding.whole in omega (arith, cells, whole)) in
         let place : i < length ahead = (let whole = f.whole in omega (arith, cells, whole)) in
-        let unseen : (v : Waiting S) → Contains f.high v → v.index ≡ i → ⊥ = λ v h e. false≢true (sym free ∙ subst (λ j. seen_at seen j ≡ true) e (f.flooding.waits_seen v (Contains-append_right low f.high v h))) in
+        let unseen : (v : Waiting S) → Contains f.high v → v.index ≡ i → ⊥ = λ v h e. false≢true
+        (sym free ∙ subst (λ j. seen_at seen j ≡ true) e (f.flooding.waits_seen v (Contains-append_right low f.high v h))) in
         record {
           high = w ∷ f.high;
           flooding = IsFlooding-add m lines from inside at is_at seen (low ++ f.high) (low ++ w ∷ f.high) q near free
@@ -95,7 +100,8 @@ module _ {S : Type 0} (m : Map) (side : SideName) (lines : List AuditLine) (leve
         }
 
     -- one more neighbour is offered
-    pub IsSpreading-more : (seen : List Bool) (ahead : List (Option ℕ)) (low : List (Waiting S)) (seen' : List Bool) (ahead' : List (Option ℕ)) (low' : List (Waiting S)) (done : List Pos) (q : Pos) → Neighbour m at q
+    pub IsSpreading-more : (seen : List Bool) (ahead : List (Option ℕ)) (low : List (Waiting S)) (seen' : List Bool) (ahead' : List (Option ℕ)) (low' : List (Waiting S))
+        (done : List Pos) (q : Pos) → Neighbour m at q
         → Offers m side q from level seen ahead low seen' ahead' low' → IsSpreading m side lines level seen ahead low from done → IsSpreading m side lines level seen' ahead' low' from (done ++ q ∷ [])
     IsSpreading-more seen ahead low seen' ahead' low' done q near offers s = elim offers [
       | inl left ↦ rw (left.1, left.2, left.3) (record {
@@ -127,13 +133,15 @@ module _ {S : Type 0} (m : Map) (side : SideName) (lines : List AuditLine) (leve
     IsRound-begin seen ahead low f = record { front = f; covered = λ q n before. absurd (omega (arith, n.columns, n.rows, before)) }
 
     -- one more position is offered
-    pub IsRound-more : Present m at → (step : ℕ) (seen : List Bool) (ahead : List (Option ℕ)) (low : List (Waiting S)) (seen' : List Bool) (ahead' : List (Option ℕ)) (low' : List (Waiting S)) → step < 9 → (step ≡ 4 → ⊥)
+    pub IsRound-more : Present m at → (step : ℕ) (seen : List Bool) (ahead : List (Option ℕ)) (low : List (Waiting S)) (seen' : List Bool) (ahead' : List (Option ℕ))
+        (low' : List (Waiting S)) → step < 9 → (step ≡ 4 → ⊥)
         → OffersAt m side at (step % 3) (step / 3) from level seen ahead low seen' ahead' low' → IsRound step seen ahead low → IsRound (step + 1) seen' ahead' low'
     IsRound-more here step seen ahead low seen' ahead' low' below apart offers r = elim offers [
       | inl one ↦
           let q : Pos = one.0 in
           let near : Neighbour m at q = step_neighbour m at q step here one.3 one.4 below apart one.1 one.2 in
-          let more : (p : Pos) → seen_at seen (place_of m.size p) ≡ true → IsSpreading m side lines level seen' ahead' low' from (p ∷ q ∷ []) = λ p old. IsSpreading-more seen ahead low seen' ahead' low' (p ∷ []) q near one.5 (record {
+          let more : (p : Pos) → seen_at seen (place_of m.size p) ≡ true → IsSpreading m side lines level seen' ahead' low' from (p ∷ q ∷ []) =
+          λ p old. IsSpreading-more seen ahead low seen' ahead' low' (p ∷ []) q near one.5 (record {
             front = r.front;
             all_seen = λ z h. elim (Contains-cases p z [] h) [
               | inl same ↦ subst (λ (x : Pos). seen_at seen (place_of m.size x) ≡ true) (sym same) old
@@ -146,7 +154,8 @@ module _ {S : Type 0} (m : Map) (side : SideName) (lines : List AuditLine) (leve
             covered = λ p n before. elim (cases_lt (3 * p.y + p.x + 4) (3 * at.y + at.x + step)) [
               | inl old ↦ (more p (r.covered p n old)).all_seen p (Contains-head p (q ∷ []))
               | inr new ↦ (let is = step_of m at p step n below (omega (arith, before, new)) in
-                  subst (λ (x : Pos). seen_at seen' (place_of m.size x) ≡ true) (same_pos q p (let a = one.1 in let b = is.0 in omega (arith, a, b)) (let a = one.2 in let b = is.1 in omega (arith, a, b))) (last.all_seen q (Contains-head q [])))
+                  subst (λ (x : Pos). seen_at seen' (place_of m.size x) ≡ true) (same_pos q p (let a = one.1 in let b = is.0 in omega (arith, a, b))
+                  (let a = one.2 in let b = is.1 in omega (arith, a, b))) (last.all_seen q (Contains-head q [])))
             ];
           }
       | inr none ↦ rw (none.1, none.2, none.3) (record {
@@ -164,12 +173,14 @@ module _ {S : Type 0} (m : Map) (side : SideName) (lines : List AuditLine) (leve
       front = r.front;
       covered = λ p n before. elim (cases_lt (3 * p.y + p.x + 4) (3 * at.y + at.x + step)) [
         | inl old ↦ r.covered p n old
-        | inr new ↦ absurd (let is = step_of m at p step n (omega (arith, centre)) (omega (arith, before, new)) in let a = is.0 in let b = is.1 in n.different (same_pos at p (omega (arith, a, centre)) (omega (arith, b, centre))))
+        | inr new ↦ absurd (let is = step_of m at p step n (omega (arith, centre)) (omega (arith, before, new)) in let a = is.0 in let b = is.1 in n.different
+            (same_pos at p (omega (arith, a, centre)) (omega (arith, b, centre))))
       ];
     }
 
     -- where all neighbours are seen the front has gone on
-    pub IsRound-end : (seen : List Bool) (ahead : List (Option ℕ)) (low : List (Waiting S)) → ((q : Pos) → Neighbour m at q → seen_at seen (place_of m.size q) ≡ true) → IsFront m side lines level seen ahead low from → IsFront m side lines level seen ahead low (from + 1)
+    pub IsRound-end : (seen : List Bool) (ahead : List (Option ℕ)) (low : List (Waiting S)) → ((q : Pos) → Neighbour m at q → seen_at seen (place_of m.size q) ≡ true)
+        → IsFront m side lines level seen ahead low from → IsFront m side lines level seen ahead low (from + 1)
     IsRound-end seen ahead low all f = record {
       high = f.high;
       flooding = IsFlooding-on m lines from inside at is_at seen (low ++ f.high) all f.flooding;

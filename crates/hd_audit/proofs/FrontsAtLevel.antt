@@ -1,5 +1,6 @@
 -- A front as its points are listed: at its beginning, from the heap, and at the level.
-use Rattle.std.proofs.Common.{◌≡◌, ◌∙◌, ◌<◌, ◌+◌, ℕ, zero, suc, ℤ, Bool, true, false, List, [], ◌∷◌, ◌++◌, length, get_or, remove, replicate, set, Option, Some, None, inl, inr, refl, sym, ap, subst, arith}
+use Rattle.std.proofs.Common.{◌≡◌, ◌∙◌, ◌<◌, ◌+◌, ℕ, zero, suc, ℤ, Bool, true, false, List, [], ◌∷◌, ◌++◌, length, get_or, remove, replicate, set}
+use Rattle.std.proofs.Common.{Option, Some, None, inl, inr, refl, sym, ap, subst, arith}
 use Rattle.std.specs.Prelude.{Contains}
 use Rattle.std.specs.BinaryHeap.{IsUpperBound}
 use Rattle.std.specs.List.Sorted.{IsPermutation}
@@ -49,7 +50,8 @@ waiting-point : {S : Type 0} (m : Map) (lines : List AuditLine) (w : Waiting S) 
 waiting-point m lines w t = record { at = t.point; present = t.neighbour.from; rank_is = t.rank_is }
 
 -- none waits at the beginning
-pub IsFront-begin : {S : Type 0} (m : Map) (side : SideName) (kept : List Kept) (n : ℕ) (seen : List Bool) (lines : List AuditLine) (ahead : List (Option ℕ)) (low : List (Waiting S)) → ahead ≡ replicate (cell_count m.size) None → length low ≡ 0 → AreBegun m kept n seen lines
+pub IsFront-begin : {S : Type 0} (m : Map) (side : SideName) (kept : List Kept) (n : ℕ) (seen : List Bool) (lines : List AuditLine) (ahead : List (Option ℕ))
+    (low : List (Waiting S)) → ahead ≡ replicate (cell_count m.size) None → length low ≡ 0 → AreBegun m kept n seen lines
     → IsFront m side lines None seen ahead low 0
 IsFront-begin m side kept n seen lines ahead [] blank empty b = record {
   high = [];
@@ -68,7 +70,8 @@ no_low [] h = refl
 no_low (w ∷ low) h = absurd (false≢true (h w (Contains-head w low)))
 
 -- without a level none waits in the heap
-pub IsFrontAt-level : {S : Type 0} (m : Map) (side : SideName) (lines : List AuditLine) (seen : List Bool) (ahead : List (Option ℕ)) (low : List (Waiting S)) → IsFront m side lines None seen ahead low (length lines) → IsFrontAt m side lines seen ahead low
+pub IsFrontAt-level : {S : Type 0} (m : Map) (side : SideName) (lines : List AuditLine) (seen : List Bool) (ahead : List (Option ℕ)) (low : List (Waiting S))
+    → IsFront m side lines None seen ahead low (length lines) → IsFrontAt m side lines seen ahead low
 IsFrontAt-level m side lines seen ahead low f = record { level = None; front = f; empty = no_low low f.under }
 
 module _ {S : Type 0} (m : Map) (whole : IsMap m) (side : SideName) (thousandths : ℕ) (sz : ℤ) (kept : List Rank) (firm : AreFirm m side thousandths sz kept)
@@ -79,7 +82,8 @@ module _ {S : Type 0} (m : Map) (whole : IsMap m) (side : SideName) (thousandths
     pub few : length lines < cell_count m.size
     pub is_point : IsPoint m point
     pub cut : (c : ℕ) → (line_at lines from).cut ≡ Some c → IsPointAt m c
-    pub shown : AreShownTo m side thousandths sz kept (lines ++ next_line m side thousandths sz (line_at lines from) point ∷ []) (length (lines ++ next_line m side thousandths sz (line_at lines from) point ∷ []))
+    pub shown : AreShownTo m side thousandths sz kept (lines ++ next_line m side thousandths sz (line_at lines from) point ∷ [])
+        (length (lines ++ next_line m side thousandths sz (line_at lines from) point ∷ []))
     pub front : IsFront m side (lines ++ next_line m side thousandths sz (line_at lines from) point ∷ []) (Some level) seen ahead' rest (length lines)
 
   -- one at least waits
@@ -95,7 +99,8 @@ module _ {S : Type 0} (m : Map) (whole : IsMap m) (side : SideName) (thousandths
       let in_low : Contains low w = Contains-permutation (w ∷ rest) low w (IsPermutation-sym low (w ∷ rest) popped) (Contains-head w rest) in
       let least : (v : Waiting S) → Contains heap v → IsNotAbove (below_by side) (rank_of_waiting w) (rank_of_waiting v) = λ v h. elim (Contains-append_cases low f.high v h) [
         | inl other ↦ lowest_first-top side low w v upper other
-        | inr high ↦ below-not_above (below_by side) (below_by-order side) (rank_of_waiting w) (rank_of_waiting v) ((below_by-order side).transitive (rank_of_waiting w) level (rank_of_waiting v) (f.under w in_low) (f.over v high))
+        | inr high ↦ below-not_above (below_by side) (below_by-order side) (rank_of_waiting w) (rank_of_waiting v)
+            ((below_by-order side).transitive (rank_of_waiting w) level (rank_of_waiting v) (f.under w in_low) (f.over v high))
       ] in
       let t : IsWaiting m lines w = f.flooding.waiting w (Contains-append_left low f.high w in_low) in
       let line : AuditLine = next_line m side thousandths sz (line_at lines w.from) (rank_of_waiting w) in
@@ -118,22 +123,27 @@ module _ {S : Type 0} (m : Map) (whole : IsMap m) (side : SideName) (thousandths
       }
 
   -- the point at the level is listed, if it waits
-  take-high : (level : Option Rank) (point : Rank) (from : ℕ) (w : Waiting S) (high rest : List (Waiting S)) → (f : IsFront m side lines level seen ahead [] (length lines)) → f.high ≡ high → IsPoint m point → AreNotBelow m side ahead point
+  take-high : (level : Option Rank) (point : Rank) (from : ℕ) (w : Waiting S) (high rest : List (Waiting S)) → (f : IsFront m side lines level seen ahead [] (length lines))
+      → f.high ≡ high → IsPoint m point → AreNotBelow m side ahead point
       → Contains high w → IsPermutation high (w ∷ rest) → w.index ≡ point.index → w.from ≡ from → IsListed point (set ahead point.index None) [] from point
   take-high level point from w high rest f is_high is_point lowest listed popped index is_from =
       let flooding : IsFlooding m lines seen high (length lines) = subst (λ (hs : List (Waiting S)). IsFlooding m lines seen hs (length lines)) is_high f.flooding in
-      let noted : (v : Waiting S) → Contains high v → ahead_at ahead v.index ≡ Some v.from = subst (λ (hs : List (Waiting S)). (v : Waiting S) → Contains hs v → ahead_at ahead v.index ≡ Some v.from) is_high f.noted in
+      let noted : (v : Waiting S) → Contains high v → ahead_at ahead v.index ≡ Some v.from = subst (λ (hs : List (Waiting S)). (v : Waiting S) → Contains hs v
+      → ahead_at ahead v.index ≡ Some v.from) is_high f.noted in
       let only : (k p : ℕ) → ahead_at ahead k ≡ Some p → (v : Waiting S) × Contains high v × (v.index ≡ k) × (v.from ≡ p) =
       subst (λ (hs : List (Waiting S)). (k p : ℕ) → ahead_at ahead k ≡ Some p → (v : Waiting S) × Contains hs v × (v.index ≡ k) × (v.from ≡ p)) is_high f.only in
       let t : IsWaiting m lines w = flooding.waiting w listed in
       let ranks : rank_of_waiting w ≡ point = same_index m (rank_of_waiting w) point (waiting-point m lines w t) is_point index in
-      let bound : (v : Waiting S) → Contains high v → IsNotAbove (below_by side) point (rank_of_waiting v) = λ v h. lowest (rank_of_waiting v) v.from (waiting-point m lines v (flooding.waiting v h)) (noted v h) in
-      let least : (v : Waiting S) → Contains high v → IsNotAbove (below_by side) (rank_of_waiting w) (rank_of_waiting v) = λ v h. subst (λ (r : Rank). IsNotAbove (below_by side) r (rank_of_waiting v)) (sym ranks) (bound v h) in
+      let bound : (v : Waiting S) → Contains high v → IsNotAbove (below_by side) point (rank_of_waiting v) = λ v h. lowest (rank_of_waiting v) v.from
+      (waiting-point m lines v (flooding.waiting v h)) (noted v h) in
+      let least : (v : Waiting S) → Contains high v → IsNotAbove (below_by side) (rank_of_waiting w) (rank_of_waiting v) = λ v h. subst
+      (λ (r : Rank). IsNotAbove (below_by side) r (rank_of_waiting v)) (sym ranks) (bound v h) in
       let line : AuditLine = next_line m side thousandths sz (line_at lines w.from) (rank_of_waiting w) in
       let listed-so : IsFlooding m (lines ++ line ∷ []) seen rest (length lines) = IsFlooding-list m lines seen high rest w line flooding popped refl in
       let in_high : (v : Waiting S) → Contains rest v → Contains high v = λ v h. Contains-permutation (w ∷ rest) high v (IsPermutation-sym high (w ∷ rest) popped) (Contains-tail w v rest h) in
       let longer = length_push lines line in
-      let other : (v : Waiting S) → Contains rest v → v.index ≡ point.index → ⊥ = λ v h e. (listed-so.waiting v h).unlisted (length lines) (omega (arith, longer)) (ap (λ (x : AuditLine). x.index) (line_at-push_new lines line (length lines) refl) ∙ index ∙ sym e) in
+      let other : (v : Waiting S) → Contains rest v → v.index ≡ point.index → ⊥ = λ v h e. (listed-so.waiting v h).unlisted (length lines) (omega (arith, longer))
+      (ap (λ (x : AuditLine). x.index) (line_at-push_new lines line (length lines) refl) ∙ index ∙ sym e) in
       let place : point.index < length ahead = (let cells = point_inside m point is_point in let long = f.whole in omega (arith, cells, long)) in
       let front : IsFront m side (lines ++ line ∷ []) (Some point) seen (set ahead point.index None) [] (length lines) = record {
         high = rest;
@@ -141,7 +151,8 @@ module _ {S : Type 0} (m : Map) (whole : IsMap m) (side : SideName) (thousandths
         whole = length-set ahead point.index None ∙ f.whole;
         noted = λ v h. get_or-set_other ahead point.index v.index None None (other v h) ∙ noted v (in_high v h);
         only = λ k p e. elim (cases_eq k point.index) [
-          | inl same ↦ absurd (let none = get_or-set_same ahead point.index None None place in let got : ahead_at (set ahead point.index None) point.index ≡ Some p = ap (ahead_at (set ahead point.index None)) (sym same) ∙ e in
+          | inl same ↦ absurd (let none = get_or-set_same ahead point.index None None place in let got : ahead_at (set ahead point.index None) point.index
+              ≡ Some p = ap (ahead_at (set ahead point.index None)) (sym same) ∙ e in
               none-some p (sym none ∙ got))
           | inr apart ↦
               let v = only k p (sym (get_or-set_other ahead point.index k None None apart) ∙ e) in
@@ -169,7 +180,8 @@ module _ {S : Type 0} (m : Map) (whole : IsMap m) (side : SideName) (thousandths
         front = front;
       }))
 
-  pub IsListed-level : (low : List (Waiting S)) (point : Rank) (from : ℕ) → IsFrontAt m side lines seen ahead low → IsPoint m point → AreNotBelow m side ahead point → ahead_at ahead point.index ≡ Some from → IsListed point (set ahead point.index None) low from point
+  pub IsListed-level : (low : List (Waiting S)) (point : Rank) (from : ℕ) → IsFrontAt m side lines seen ahead low → IsPoint m point → AreNotBelow m side ahead point
+      → ahead_at ahead point.index ≡ Some from → IsListed point (set ahead point.index None) low from point
   IsListed-level [] point from at is_point lowest e =
       let f = at.front in
       let v = f.only point.index from e in
@@ -178,19 +190,22 @@ module _ {S : Type 0} (m : Map) (whole : IsMap m) (side : SideName) (thousandths
   IsListed-level (x ∷ low) point from at is_point lowest e = absurd (let empty = at.empty in omega (arith, empty))
 
   -- where the points up to the last are passed, all are listed
-  pub ArePassed-all : (low : List (Waiting S)) (points : List Rank) → IsFrontAt m side lines seen ahead low → AreInOrder m side points → ((j : ℕ) (d : Rank) → j < length points → ArePassed m side ahead (get_or points j d)) → AreShownLines m side thousandths sz kept lines
-  ArePassed-all low points at order passed = AreShownLines-all m whole side thousandths sz kept firm lines seen (low ++ at.front.high) at.front.flooding so (λ w h. elim (Contains-append_cases low at.front.high w h) [
-    | inl inside ↦ nothing low w at.empty inside
-    | inr high ↦
-        let point = waiting-point m lines w (at.front.flooding.waiting w h) in
-        let r : Rank = rank_of_waiting w in
-        let c = order.all r point in
-        let below : below_by side (get_or points c.0 r) r ≡ true = passed c.0 r c.1 r w.from point (at.front.noted w high) in
-        below-apart (below_by side) (below_by-order side) (get_or points c.0 r) r below c.2
-  ])
+  pub ArePassed-all : (low : List (Waiting S)) (points : List Rank) → IsFrontAt m side lines seen ahead low → AreInOrder m side points
+      → ((j : ℕ) (d : Rank) → j < length points → ArePassed m side ahead (get_or points j d)) → AreShownLines m side thousandths sz kept lines
+  ArePassed-all low points at order passed = AreShownLines-all m whole side thousandths sz kept firm lines seen (low ++ at.front.high) at.front.flooding so
+      (λ w h. elim (Contains-append_cases low at.front.high w h) [
+        | inl inside ↦ nothing low w at.empty inside
+        | inr high ↦
+            let point = waiting-point m lines w (at.front.flooding.waiting w h) in
+            let r : Rank = rank_of_waiting w in
+            let c = order.all r point in
+            let below : below_by side (get_or points c.0 r) r ≡ true = passed c.0 r c.1 r w.from point (at.front.noted w high) in
+            below-apart (below_by side) (below_by-order side) (get_or points c.0 r) r below c.2
+      ])
 
 -- the next of the points is not above those that are noted
-pub ArePassed-next : (m : Map) (side : SideName) (ahead : List (Option ℕ)) (points : List Rank) (i : ℕ) (d : Rank) → AreInOrder m side points → i < length points → ((j : ℕ) (d : Rank) → j < i → ArePassed m side ahead (get_or points j d)) → AreNotBelow m side ahead (get_or points i d)
+pub ArePassed-next : (m : Map) (side : SideName) (ahead : List (Option ℕ)) (points : List Rank) (i : ℕ) (d : Rank) → AreInOrder m side points → i < length points
+    → ((j : ℕ) (d : Rank) → j < i → ArePassed m side ahead (get_or points j d)) → AreNotBelow m side ahead (get_or points i d)
 ArePassed-next m side ahead points i d order inside passed x p point e =
     let c = order.all x point in
     elim (cases_lt c.0 i) [
@@ -204,7 +219,8 @@ ArePassed-next m side ahead points i d order inside passed x p point e =
     ]
 
 -- what passes a point passes those before it
-pub ArePassed-more : (m : Map) (side : SideName) (ahead : List (Option ℕ)) (points : List Rank) (i : ℕ) (e : Rank) → AreInOrder m side points → i < length points → ArePassed m side ahead (get_or points i e) → (j : ℕ) (d : Rank) → j < i + 1 → ArePassed m side ahead (get_or points j d)
+pub ArePassed-more : (m : Map) (side : SideName) (ahead : List (Option ℕ)) (points : List Rank) (i : ℕ) (e : Rank) → AreInOrder m side points → i < length points
+    → ArePassed m side ahead (get_or points i e) → (j : ℕ) (d : Rank) → j < i + 1 → ArePassed m side ahead (get_or points j d)
 ArePassed-more m side ahead points i e order inside passed j d less x p point n =
     let at : get_or points i d ≡ get_or points i e = get_or_default points i d e inside in
     let below : below_by side (get_or points i d) x ≡ true = subst (λ (r : Rank). below_by side r x ≡ true) (sym at) (passed x p point n) in
@@ -214,7 +230,8 @@ ArePassed-more m side ahead points i e order inside passed j d less x p point n 
     ]
 
 -- at the level all below it are passed
-pub ArePassed-level : {S : Type 0} (m : Map) (side : SideName) (lines : List AuditLine) (point : Rank) (seen : List Bool) (ahead : List (Option ℕ)) (low : List (Waiting S)) (n : ℕ) → IsFront m side lines (Some point) seen ahead low n → ArePassed m side ahead point
+pub ArePassed-level : {S : Type 0} (m : Map) (side : SideName) (lines : List AuditLine) (point : Rank) (seen : List Bool) (ahead : List (Option ℕ)) (low : List (Waiting S)) (n : ℕ)
+    → IsFront m side lines (Some point) seen ahead low n → ArePassed m side ahead point
 ArePassed-level m side lines point seen ahead low n f x p at e =
     let v = f.only x.index p e in
     let same : rank_of_waiting v.0 ≡ x = same_index m (rank_of_waiting v.0) x (waiting-point m lines v.0 (f.flooding.waiting v.0 (Contains-append_right low f.high v.0 v.1))) at v.2 in

@@ -35,12 +35,15 @@ module _ (m : Map) (whole : IsMap m) (side : SideName) (thousandths : ℕ) (sz :
   alone-in_order i j d less inside =
       let long : length (pits_kept kept) ≡ length kept = length-map kept (λ (k : Kept). k.pit) in
       let rises : AllPairs (λ (a : Rank) (b : Rank). a.index < b.index) (pits_kept kept) =
-      subst (λ (ps : List Rank). AllPairs (λ (a : Rank) (b : Rank). a.index < b.index) ps) (sym alone.are_kept.pits) (kept-in_order m whole side thousandths alone.steps alone.last alone.owner alone.pruning) in
+      subst (λ (ps : List Rank). AllPairs (λ (a : Rank) (b : Rank). a.index < b.index) ps) (sym alone.are_kept.pits)
+      (kept-in_order m whole side thousandths alone.steps alone.last alone.owner alone.pruning) in
       let r = rises i j d.pit less (omega (arith, inside, long)) in
-      subst (λ (a : Rank). a.index < (get_or kept j d).pit.index) (pit-of i d (omega (arith, less, inside))) (subst (λ (b : Rank). (get_or (pits_kept kept) i d.pit).index < b.index) (pit-of j d inside) r)
+      subst (λ (a : Rank). a.index < (get_or kept j d).pit.index) (pit-of i d (omega (arith, less, inside)))
+      (subst (λ (b : Rank). (get_or (pits_kept kept) i d.pit).index < b.index) (pit-of j d inside) r)
 
 -- a certificate of shown lines is shown
-pub IsShown-alone : (m : Map) (side : SideName) (percent : Percent) (sz : ℤ) (kept : List Kept) (a : Audit) → SzIs m sz → AreKeptAlone m side percent.thousandths kept → a.side ≡ side → a.percent ≡ percent → a.adjacency ≡ m.adjacency
+pub IsShown-alone : (m : Map) (side : SideName) (percent : Percent) (sz : ℤ) (kept : List Kept) (a : Audit) → SzIs m sz → AreKeptAlone m side percent.thousandths kept
+    → a.side ≡ side → a.percent ≡ percent → a.adjacency ≡ m.adjacency
     → AreShownLines m side percent.thousandths sz (pits_kept kept) a.lines → IsShown m side percent a
 IsShown-alone m side percent sz kept a is alone side_is percent_is adjacency_is lines =
     let same : sz ≡ alone.pruning.sz = sz-unique m sz alone.pruning.sz is alone.pruning.sz_is in

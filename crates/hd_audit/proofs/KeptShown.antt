@@ -86,11 +86,13 @@ module _ (m : Map) (whole : IsMap m) (side : SideName) (thousandths : ℕ) (sz :
   cut-not_below : (i c : ℕ) → HasCut lines i c → IsNotAbove (below_by side) (rank_at m c) (rank_at m i)
   cut-not_below i c has =
       let k = line-place lines has.0 has.1.listed in
-      let h : IsCutOf m side lines (line_at lines k.0) c = subst (λ o. MatchOption o (Unit {0}) (IsCutOf m side lines (line_at lines k.0))) (ap (λ (z : AuditLine). z.cut) k.2 ∙ has.2) (rules.1.1.1.1.0 k.0 k.1) in
+      let h : IsCutOf m side lines (line_at lines k.0) c = subst (λ o. MatchOption o (Unit {0}) (IsCutOf m side lines (line_at lines k.0)))
+      (ap (λ (z : AuditLine). z.cut) k.2 ∙ has.2) (rules.1.1.1.1.0 k.0 k.1) in
       subst (λ j. IsNotAbove (below_by side) (rank_at m c) (rank_at m j)) (ap (λ (z : AuditLine). z.index) k.2 ∙ has.1.index) h.not_below
 
   -- nothing that the point of a line without a parent reaches within itself is below it
-  root-lowest : (x : AuditLine) → Contains lines x → x.parent ≡ None → (q : Rank) → ReachesWithin m side thousandths sz (rank_at m x.index) (rank_at m x.index) q → IsNotAbove (below_by side) (rank_at m x.index) q
+  root-lowest : (x : AuditLine) → Contains lines x → x.parent ≡ None → (q : Rank) → ReachesWithin m side thousandths sz (rank_at m x.index) (rank_at m x.index) q
+      → IsNotAbove (below_by side) (rank_at m x.index) q
   root-lowest x at none q reach =
       let root : Rank = rank_at m x.index in
       let own = root-pit x at none in

@@ -42,7 +42,8 @@ module _ (m : Map) (side : SideName) (thousandths : ℕ) (sz : ℤ) (lines : Lis
   )
 
   -- a line with a cut leaks where its cut does
-  pub FirstLeak-line : (k cut : ℕ) → (line_at lines k).cut ≡ Some cut → (o : Option Pos) → FirstLeakRound m side thousandths sz lines cut (point_at m lines k) o → FirstLeak m side thousandths sz lines k o
+  pub FirstLeak-line : (k cut : ℕ) → (line_at lines k).cut ≡ Some cut → (o : Option Pos) → FirstLeakRound m side thousandths sz lines cut (point_at m lines k) o
+      → FirstLeak m side thousandths sz lines k o
   FirstLeak-line k cut is None none = λ q leak.
       (let same : leak.cut ≡ cut = same_Some leak.cut cut (sym leak.cut_is ∙ is) in
       none q leak.neighbour (subst (λ (c : ℕ). LeaksTo m side thousandths sz lines c q) same (record { within = leak.within; outside = leak.outside })))

@@ -25,7 +25,8 @@ module _ (numbers : List LineNumbers) (named : List Named) (paired : length numb
   lines_kept-length lines is = sym length_kept ∙ ap length is
 
   -- the line at a place is that of what is kept there
-  pub lines_kept-line_at : (k : ℕ) (n : LineNumbers) (which : Named) → k < length numbers → n ≡ get_or numbers k n → which ≡ get_or named k which → line_at (lines_kept numbers named) k ≡ line_kept n which
+  pub lines_kept-line_at : (k : ℕ) (n : LineNumbers) (which : Named) → k < length numbers → n ≡ get_or numbers k n → which ≡ get_or named k which
+      → line_at (lines_kept numbers named) k ≡ line_kept n which
   lines_kept-line_at k n which inside n_is which_is =
       get_or-zip2 line_kept numbers named k n which _ inside (let e = paired in omega (arith, inside, e)) ∙ sym (rw (← n_is, ← which_is) refl)
 

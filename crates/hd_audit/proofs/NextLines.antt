@@ -37,7 +37,8 @@ not_lower true b e = cc
 not_lower false b e = refl
 
 -- none that waits is below the top of the heap
-pub lowest_first-top : {S : Type 0} (side : SideName) (heap : List (Waiting S)) (w v : Waiting S) → IsUpperBound (λ (x : Waiting S) (y : Waiting S). lowest_first (below_by side) (rank_of_waiting x) (rank_of_waiting y)) w heap → Contains heap v
+pub lowest_first-top : {S : Type 0} (side : SideName) (heap : List (Waiting S)) (w v : Waiting S)
+    → IsUpperBound (λ (x : Waiting S) (y : Waiting S). lowest_first (below_by side) (rank_of_waiting x) (rank_of_waiting y)) w heap → Contains heap v
     → IsNotAbove (below_by side) (rank_of_waiting w) (rank_of_waiting v)
 lowest_first-top {S} side heap w v upper at =
     let a = All-contains (λ (y : Waiting S). is_lt (lowest_first (below_by side) (rank_of_waiting w) (rank_of_waiting y)) ≡ false) heap v (All-from_recursion _ heap upper) at in
@@ -55,7 +56,8 @@ module _ {S : Type 0} (m : Map) (whole : IsMap m) (side : SideName) (thousandths
   -- the index of a cut is that of a present point
   pub IsPointAt-cut : (j c : ℕ) → j < length lines → (line_at lines j).cut ≡ Some c → IsPointAt m c
   IsPointAt-cut j c before e =
-      let h : CutIs m side thousandths sz kept (rank_at m (line_at lines j).index) (Some c) = subst (λ o. CutIs m side thousandths sz kept (rank_at m (line_at lines j).index) o) e (so.cuts j before) in
+      let h : CutIs m side thousandths sz kept (rank_at m (line_at lines j).index) (Some c) = subst (λ o. CutIs m side thousandths sz kept (rank_at m (line_at lines j).index) o) e
+      (so.cuts j before) in
       subst (IsPointAt m) h.2 (IsPointAt-point m h.0 ((firm h.0).0 h.1).0.point)
 
   -- where none waits all is listed
@@ -122,7 +124,8 @@ module _ {S : Type 0} (m : Map) (whole : IsMap m) (side : SideName) (thousandths
         }
 
     -- its cut is right
-    cut-right : (t : IsWaiting m lines w) (o : Option ℕ) → CutIs m side thousandths sz kept (rank_at m (line_at lines w.from).index) o → CutIs m side thousandths sz kept (rank m t.point) (next_cut m side thousandths sz o (rank m t.point))
+    cut-right : (t : IsWaiting m lines w) (o : Option ℕ) → CutIs m side thousandths sz kept (rank_at m (line_at lines w.from).index) o
+        → CutIs m side thousandths sz kept (rank m t.point) (next_cut m side thousandths sz o (rank m t.point))
     cut-right t None h = CutIs-none m whole side thousandths sz kept firm lines (length lines) so t.point w.from t.before t.neighbour
         (λ i less e. t.unlisted i less (e ∙ ap (λ (r : Rank). r.index) (sym t.rank_is))) h
     cut-right t (Some c) h =
@@ -150,8 +153,10 @@ module _ {S : Type 0} (m : Map) (whole : IsMap m) (side : SideName) (thousandths
             | inr last ↦
                 let e : length lines ≡ k = omega (arith, less, last, longer) in
                 let cut = cut-right t (line_at lines w.from).cut (so.cuts w.from t.before) in
-                let own : CutIs m side thousandths sz kept (rank_of_waiting w) line.cut = subst (λ (r : Rank). CutIs m side thousandths sz kept r (next_cut m side thousandths sz (line_at lines w.from).cut r)) (sym t.rank_is) cut in
-                let there : CutIs m side thousandths sz kept (rank_at m line.index) line.cut = subst (λ (r : Rank). CutIs m side thousandths sz kept r line.cut) (sym (rank_at-index m (rank_of_waiting w) IsWaiting-point)) own in
+                let own : CutIs m side thousandths sz kept (rank_of_waiting w) line.cut = subst
+                (λ (r : Rank). CutIs m side thousandths sz kept r (next_cut m side thousandths sz (line_at lines w.from).cut r)) (sym t.rank_is) cut in
+                let there : CutIs m side thousandths sz kept (rank_at m line.index) line.cut = subst (λ (r : Rank). CutIs m side thousandths sz kept r line.cut)
+                (sym (rank_at-index m (rank_of_waiting w) IsWaiting-point)) own in
                 subst (λ (x : AuditLine). CutIs m side thousandths sz kept (rank_at m x.index) x.cut) (sym (ap (line_at (lines ++ line ∷ [])) (sym e) ∙ here)) there
           ];
         }

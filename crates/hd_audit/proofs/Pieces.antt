@@ -19,7 +19,8 @@ words_joined : (front more : List ℕ) → EndsLine front → words_in (front ++
 words_joined front more ends = ap (map words_of) (ends more) ∙ map-append words_of (lines_of front) (lines_of more)
 
 -- the first line of a piece is whole with what had come of it
-pub words_in-first : (rest first others piece line : List ℕ) → line ≡ rest ++ first → IsCutAfterLine piece first others → (more : List ℕ) → words_in (rest ++ (piece ++ more)) ≡ words_in line ++ words_in (others ++ more)
+pub words_in-first : (rest first others piece line : List ℕ) → line ≡ rest ++ first → IsCutAfterLine piece first others → (more : List ℕ)
+    → words_in (rest ++ (piece ++ more)) ≡ words_in line ++ words_in (others ++ more)
 words_in-first rest first others piece line is cut more =
     ap words_in (ap (λ (xs : List ℕ). rest ++ (xs ++ more)) cut.whole ∙ ap (λ (xs : List ℕ). rest ++ xs) (append_assoc first others more) ∙ sym (append_assoc rest first (others ++ more)))
     ∙ words_joined (rest ++ first) (others ++ more) (cut.ends rest) ∙ ap (λ (xs : List ℕ). words_in xs ++ words_in (others ++ more)) (sym is)

@@ -1,5 +1,6 @@
 -- A line of a point without more blanks than needed is the first line of its text.
-use Rattle.std.proofs.Common.{◌≡◌, ◌≢◌, ◌<◌, ◌≤◌, ◌^◌, ◌&&◌, ◌++◌, ℕ, Bool, true, false, List, [], ◌∷◌, length, map, take, drop, Option, Some, None, ap, ap₂, ◌∙◌, sym, refl, arith, append_assoc, if◌then◌else◌}
+use Rattle.std.proofs.Common.{◌≡◌, ◌≢◌, ◌<◌, ◌≤◌, ◌^◌, ◌&&◌, ◌++◌, ℕ, Bool, true, false, List, [], ◌∷◌, length, map, take, drop, Option, Some, None, ap}
+use Rattle.std.proofs.Common.{ap₂, ◌∙◌, sym, refl, arith, append_assoc, if◌then◌else◌}
 use Rattle.std.specs.Prelude.{codes, nat_lt}
 use Rattle.std.specs.Char.{is_ascii_digit}
 use Rattle.std.specs.List.{list_all}
@@ -57,7 +58,8 @@ count_or_none-given w n read = by_test (bytes_eq w (codes "-")) refl
 
 -- the words `INDEX PARENT CUT` with one blank between them are the first line
 module _ (text rest a b c d e : List ℕ) (index : ℕ) (parent cut : Option ℕ)
-    (first : BeginsWith count_of text index a) (space : a ≡ 32 ∷ b) (second : BeginsWith count_or_none b parent c) (space' : c ≡ 32 ∷ d) (third : BeginsWith count_or_none d cut e) (ends : e ≡ 10 ∷ rest) where
+    (first : BeginsWith count_of text index a) (space : a ≡ 32 ∷ b) (second : BeginsWith count_or_none b parent c) (space' : c ≡ 32 ∷ d) (third : BeginsWith count_or_none d cut e)
+    (ends : e ≡ 10 ∷ rest) where
   abbrev words : List (List ℕ)
   words = first.word ∷ second.word ∷ third.word ∷ []
 
@@ -65,16 +67,21 @@ module _ (text rest a b c d e : List ℕ) (index : ℕ) (parent cut : Option ℕ
   plain_line-last_word = third.whole ∙ ap (λ (t : List ℕ). third.word ++ t) ends ∙ sym (append_assoc third.word (10 ∷ []) rest)
 
   plain_line-last_words : b ≡ (second.word ++ 32 ∷ (third.word ++ 10 ∷ [])) ++ rest
-  plain_line-last_words = second.whole ∙ ap (λ (t : List ℕ). second.word ++ t) (space' ∙ ap (λ (t : List ℕ). 32 ∷ t) plain_line-last_word) ∙ sym (append_assoc second.word (32 ∷ (third.word ++ 10 ∷ [])) rest)
+  plain_line-last_words = second.whole ∙ ap (λ (t : List ℕ). second.word ++ t) (space' ∙ ap (λ (t : List ℕ). 32 ∷ t) plain_line-last_word)
+      ∙ sym (append_assoc second.word (32 ∷ (third.word ++ 10 ∷ [])) rest)
 
   plain_line-first : text ≡ line_text words ++ rest
-  plain_line-first = first.whole ∙ ap (λ (t : List ℕ). first.word ++ t) (space ∙ ap (λ (t : List ℕ). 32 ∷ t) plain_line-last_words) ∙ sym (append_assoc first.word (32 ∷ (second.word ++ 32 ∷ (third.word ++ 10 ∷ []))) rest)
+  plain_line-first = first.whole ∙ ap (λ (t : List ℕ). first.word ++ t) (space ∙ ap (λ (t : List ℕ). 32 ∷ t) plain_line-last_words)
+      ∙ sym (append_assoc first.word (32 ∷ (second.word ++ 32 ∷ (third.word ++ 10 ∷ []))) rest)
 
   pub BeginsWithLine-plain : BeginsWithLine text (record { index = index; parent = parent; cut = cut }) rest
   BeginsWithLine-plain = record {
     words = words;
     lines = ap (λ (t : List ℕ). map words_of (lines_of t)) plain_line-first
-        ∙ lines_of-first first.word (second.word ∷ third.word ∷ []) rest (count_is_word first.word index first.reads, (count_or_none_is_word second.word parent second.reads, (count_or_none_is_word third.word cut third.reads, tt)));
+        ∙ lines_of-first first.word (second.word ∷ third.word ∷ []) rest (
+          count_is_word first.word index first.reads,
+          (count_or_none_is_word second.word parent second.reads, (count_or_none_is_word third.word cut third.reads, tt)),
+        );
     form = ap (λ (i : Option ℕ). line_of_parts i (count_or_none second.word) (count_or_none third.word)) first.reads
         ∙ ap₂ (λ (p q : Option (Option ℕ)). line_of_parts (Some index) p q) second.reads third.reads;
     front = line_text words;

@@ -1,5 +1,6 @@
 -- The text of a pruning certificate is read as this certificate.
-use Rattle.std.proofs.Common.{◌≡◌, ◌≢◌, ◌<◌, ◌≤◌, ◌+◌, ◌/◌, ◌%◌, ◌^◌, ◌&&◌, ◌==◌, ℕ, zero, suc, List, [], ◌∷◌, ◌++◌, length, length-append, map, take, get_or, Bool, true, false, Option, Some, None, Ok, refl, ap, ap₂, ◌∙◌, arith, ne_eqb, if◌then◌else◌}
+use Rattle.std.proofs.Common.{◌≡◌, ◌≢◌, ◌<◌, ◌≤◌, ◌+◌, ◌/◌, ◌%◌, ◌^◌, ◌&&◌, ◌==◌, ℕ, zero, suc, List, [], ◌∷◌, ◌++◌, length, length-append, map, take}
+use Rattle.std.proofs.Common.{get_or, Bool, true, false, Option, Some, None, Ok, refl, ap, ap₂, ◌∙◌, arith, ne_eqb, if◌then◌else◌}
 use Rattle.std.specs.Prelude.{IfSome, codes, decimal}
 use Rattle.std.specs.List.{list_all}
 use Rattle.std.specs.Str.{bytes_eq}
@@ -17,7 +18,8 @@ use Rattle.hd_num.proofs.PercentReadsBack.{percent_of-percent_text}
 use Rattle.hd_num.proofs.WholeReadsBack.{count_of-decimal, decimal-first}
 use Rattle.hd_check.specs.Reading.{Read, adjacency_of, and_then, line_as, line_gives, side_of, value_of}
 use Rattle.hd_check.specs.Text.{adjacency_word, side_word}
-use Rattle.hd_check.proofs.ReadsBack.{AreLines, IsWord, adjacency_word-clear, count_form-counted, IsWord-decimal, IsWord-filled, numbered-from_line, is_clear, AreLines-items, lines_of-line_text, AreWords-number, side_word-clear, IsWord-end}
+use Rattle.hd_check.proofs.ReadsBack.{AreLines, IsWord, adjacency_word-clear, count_form-counted, IsWord-decimal, IsWord-filled, numbered-from_line}
+use Rattle.hd_check.proofs.ReadsBack.{is_clear, AreLines-items, lines_of-line_text, AreWords-number, side_word-clear, IsWord-end}
 use Rattle.hd_audit.specs.declared.types.Audit.{Audit}
 use Rattle.hd_audit.specs.declared.types.AuditLine.{AuditLine}
 use Rattle.hd_audit.specs.declared.words.AuditHead.{AuditHead}
@@ -98,7 +100,8 @@ head_back : (side : SideName) (t : ℕ) (adjacency : Adjacency) → t ≤ 100000
     ≡ Some (record { side = side; percent = record { thousandths = t }; adjacency = adjacency })
 head_back side t adjacency most = ap (λ (p : Option Percent). parts_of side p adjacency) (percent_of-percent_text t most) ∙ back side adjacency
   where
-    back : (side : SideName) (adjacency : Adjacency) → parts_of side (Some (record { thousandths = t })) adjacency ≡ Some (record { side = side; percent = record { thousandths = t }; adjacency = adjacency })
+    back : (side : SideName) (adjacency : Adjacency) → parts_of side (Some (record { thousandths = t })) adjacency
+        ≡ Some (record { side = side; percent = record { thousandths = t }; adjacency = adjacency })
     back Dales Four = refl
     back Dales Six = refl
     back Dales Eight = refl

@@ -35,7 +35,8 @@ module _ (m : Map) (whole : IsMap m) (side : SideName) (thousandths : ℕ) (sz :
       let start : IsNotAbove (below_by side) q s = All-head (λ x. IsNotAbove (below_by side) x s) q xs none in
       let w = IsWithin-higher side thousandths sz q p s low (IsWithin-goes side thousandths sz q s start under.goes_away) in
       ReachesWithin-from_points m side thousandths sz p q u xs under.is_saddle.reached.1.leads
-      (All-weaker (λ x. IsNotAbove (below_by side) x s) (IsWithin side thousandths sz p) (λ x below. IsWithin-lower side thousandths sz p s x below w) xs (All-tail (λ x. IsNotAbove (below_by side) x s) q xs none))
+      (All-weaker (λ x. IsNotAbove (below_by side) x s) (IsWithin side thousandths sz p) (λ x below. IsWithin-lower side thousandths sz p s x below w) xs
+      (All-tail (λ x. IsNotAbove (below_by side) x s) q xs none))
 
   -- a pit that is not kept reaches a kept one within itself, and is within itself
   reaches_kept : (p : Rank) → IsPit m side p → (Contains kept p → ⊥) → ((r : Rank) → Contains kept r → ReachesWithin m side thousandths sz p p r → IsWithin side thousandths sz p p → ⊥) → ⊥
@@ -109,7 +110,8 @@ module _ (m : Map) (whole : IsMap m) (side : SideName) (thousandths : ℕ) (sz :
                   let at : y ≡ get_or kept l rank-none = IsKeptLine-rank m side thousandths sz kept lines l rank-none (shown.pits l first) bottom.point in
                   let near : Near m y (rank m line.point) = near-sym m (rank m line.point) y (Near-at m line.point (point_at m lines l) line.next_to.neighbour) in
                   let up = below_by-pit m side y (rank m line.point) (subst (IsPit m side) (sym at) bottom) near in
-                  IsWithin-lower side thousandths sz start (rank m line.point) y (below-not_above (below_by side) (below_by-order side) y (rank m line.point) up) (subst (IsWithin side thousandths sz start) is w)
+                  IsWithin-lower side thousandths sz start (rank m line.point) y (below-not_above (below_by side) (below_by-order side) y (rank m line.point) up)
+                  (subst (IsWithin side thousandths sz start) is w)
               | inr further ↦ reached-within l further (omega arith)
             ] in
             let rest = chain_from f l (omega arith) (omega arith) within in
@@ -134,7 +136,8 @@ module _ (m : Map) (whole : IsMap m) (side : SideName) (thousandths : ℕ) (sz :
           }
 
     -- 18
-    pub IsChainWithin-shown : (k : ℕ) → k < length lines → ((line_at lines k).parent ≡ None → ⊥) → IsPit m side (rank_at m (line_at lines k).index) → IsChainWithin m side thousandths sz lines (line_at lines k).index
+    pub IsChainWithin-shown : (k : ℕ) → k < length lines → ((line_at lines k).parent ≡ None → ⊥) → IsPit m side (rank_at m (line_at lines k).index)
+        → IsChainWithin m side thousandths sz lines (line_at lines k).index
     IsChainWithin-shown k inside has pit = elim (cases_lt k (length kept)) [
       | inl less ↦ absurd (has (shown.pits k less).parent)
       | inr more ↦ IsChainWithin-line k inside more pit

@@ -66,7 +66,8 @@ module _ (m : Map) (side : SideName) (thousandths : ℕ) (sz : ℤ) (kept : List
     IsAmong-kept n enough pits c at = (at.0, (let inside = at.1 in omega arith), (pits at.0 at.1).index c ∙ ap (λ (r : Rank). r.index) at.2)
 
     -- where a way within c leads from a point that is listed before place j to one that is not, the point that is listed there is within c
-    pub IsReachedLine-within : (c a b : Rank) (j : ℕ) → IsReachedLine m side thousandths sz kept lines j → ReachesWithin m side thousandths sz c a b → IsAmong lines j a.index → (IsAmong lines j b.index → ⊥)
+    pub IsReachedLine-within : (c a b : Rank) (j : ℕ) → IsReachedLine m side thousandths sz kept lines j → ReachesWithin m side thousandths sz c a b → IsAmong lines j a.index
+        → (IsAmong lines j b.index → ⊥)
         → IsWithin side thousandths sz c (rank_at m (line_at lines j).index)
     IsReachedLine-within c a b j line reach has not =
         let s = Reach-crosses (λ (r : Rank). IsAmong lines j r.index) (λ r. IsAmong-or_not lines j r.index) reach has not in
@@ -99,7 +100,8 @@ module _ (m : Map) (side : SideName) (thousandths : ℕ) (sz : ℤ) (kept : List
     pub IsKeptLine-moved : (k : ℕ) → k < n → IsKeptLine m side thousandths sz kept lines k → IsKeptLine m side thousandths sz kept more k
     IsKeptLine-moved k less h = record { index = λ d. index-same k less ∙ h.index d; parent = ap (λ (x : AuditLine). x.parent) (same k less) ∙ h.parent }
 
-    pub IsReachedLine-moved : (k : ℕ) → k < n → ((q : Pos) → IsNextTo m side thousandths sz kept more k q → IsNextTo m side thousandths sz kept lines k q) → IsReachedLine m side thousandths sz kept lines k → IsReachedLine m side thousandths sz kept more k
+    pub IsReachedLine-moved : (k : ℕ) → k < n → ((q : Pos) → IsNextTo m side thousandths sz kept more k q → IsNextTo m side thousandths sz kept lines k q)
+        → IsReachedLine m side thousandths sz kept lines k → IsReachedLine m side thousandths sz kept more k
     unfolding IsNextTo-moved
     IsReachedLine-moved k less back h = record {
       point = h.point;

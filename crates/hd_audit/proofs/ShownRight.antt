@@ -31,7 +31,8 @@ use Rattle.hd_audit.proofs.ShownRules.{IsNewPoint-shown, IsListed-present, IsEar
 use Rattle.hd_audit.proofs.ShownChains.{IsChainWithin-shown}
 
 -- what is left keeps the order of the pits
-left-in_order : {m : Map} {side : SideName} {thousandths : ℕ} {sz : ℤ} {kept last : List Rank} {owner ends : Rank → Rank} {steps : List Leaving} → Prunes m side thousandths sz kept owner steps last ends
+left-in_order : {m : Map} {side : SideName} {thousandths : ℕ} {sz : ℤ} {kept last : List Rank} {owner ends : Rank → Rank} {steps : List Leaving}
+    → Prunes m side thousandths sz kept owner steps last ends
     → AllPairs (λ (a : Rank) (b : Rank). a.index < b.index) kept → AllPairs (λ (a : Rank) (b : Rank). a.index < b.index) last
 left-in_order (over none) h = h
 left-in_order {side = side} {kept = kept} (goes_on {x = x} step rest) h = left-in_order rest (AllPairs-filter (λ (a : Rank) (b : Rank). a.index < b.index) (λ q. differ (below_by side) x.pit q) kept h)
@@ -109,8 +110,10 @@ module _ (m : Map) (whole : IsMap m) (side : SideName) (thousandths : ℕ) (sz :
           let i_before : i < k = a.next_to.before in
           let j_before : j < k = b.next_to.before in
           let index : (l : ℕ) → l < k → (line_at ys l).index ≡ (line_at xs l).index = λ l less. ap (λ (x : AuditLine). x.index) (same l less) in
-          let in_b : Neighbour m b.point (point_at m ys i) = subst (λ (p : Pos). Neighbour m p (point_at m ys i)) (sym points) (subst (λ (p : Pos). Neighbour m a.point p) (ap (position_at m.size) (sym (index i i_before))) a.next_to.neighbour) in
-          let in_a : Neighbour m a.point (point_at m xs j) = subst (λ (p : Pos). Neighbour m p (point_at m xs j)) points (subst (λ (p : Pos). Neighbour m b.point p) (ap (position_at m.size) (index j j_before)) b.next_to.neighbour) in
+          let in_b : Neighbour m b.point (point_at m ys i) = subst (λ (p : Pos). Neighbour m p (point_at m ys i)) (sym points)
+          (subst (λ (p : Pos). Neighbour m a.point p) (ap (position_at m.size) (sym (index i i_before))) a.next_to.neighbour) in
+          let in_a : Neighbour m a.point (point_at m xs j) = subst (λ (p : Pos). Neighbour m p (point_at m xs j)) points
+          (subst (λ (p : Pos). Neighbour m b.point p) (ap (position_at m.size) (index j j_before)) b.next_to.neighbour) in
           let places : j ≡ i = elim (cases_lt i j) [
             | inl less ↦ absurd (b.first i less in_b)
             | inr le ↦ elim (cases_lt j i) [ inl less ↦ absurd (a.first j less in_a) | inr ge ↦ omega arith ]
@@ -155,7 +158,8 @@ module _ (m : Map) (whole : IsMap m) (side : SideName) (thousandths : ℕ) (sz :
 same_audit : (a b : Audit) → a.side ≡ b.side → a.percent ≡ b.percent → a.adjacency ≡ b.adjacency → a.lines ≡ b.lines → a ≡ b
 same_audit a b p q r s = audit a.side b.side a.percent b.percent a.adjacency b.adjacency a.lines b.lines p q r s
   where
-    audit : (i j : SideName) (p q : Percent) (c d : Adjacency) (xs ys : List AuditLine) → i ≡ j → p ≡ q → c ≡ d → xs ≡ ys → ◌≡◌ {A = Audit} (record { side = i; percent = p; adjacency = c; lines = xs }) (record { side = j; percent = q; adjacency = d; lines = ys })
+    audit : (i j : SideName) (p q : Percent) (c d : Adjacency) (xs ys : List AuditLine) → i ≡ j → p ≡ q → c ≡ d → xs ≡ ys
+        → ◌≡◌ {A = Audit} (record { side = i; percent = p; adjacency = c; lines = xs }) (record { side = j; percent = q; adjacency = d; lines = ys })
     audit i j p q c d xs ys e f g h = cc
 
 -- a map has one shown certificate of a side and a percent
@@ -165,5 +169,7 @@ IsShown-unique m side percent a b whole h k =
     let sz : k.pruning.sz ≡ h.pruning.sz = sz-unique m k.pruning.sz h.pruning.sz k.pruning.sz_is h.pruning.sz_is in
     let last : k.last ≡ h.last = (pruning-unique m side t k.steps h.steps k.last h.last k.owner h.owner k.pruning h.pruning).1 in
     let firm = AreFirm-kept m whole side t h.steps h.last h.owner h.pruning in
-    let other : AreShownLines m side t h.pruning.sz h.last b.lines = subst (λ z. AreShownLines m side t z h.last b.lines) sz (subst (λ (ls : List Rank). AreShownLines m side t k.pruning.sz ls b.lines) last k.lines) in
-    same_audit a b (h.side_is ∙ sym k.side_is) (h.percent_is ∙ sym k.percent_is) (h.adjacency_is ∙ sym k.adjacency_is) (AreShownLines-unique m whole side t h.pruning.sz h.last firm a.lines b.lines h.lines other)
+    let other : AreShownLines m side t h.pruning.sz h.last b.lines = subst (λ z. AreShownLines m side t z h.last b.lines) sz
+    (subst (λ (ls : List Rank). AreShownLines m side t k.pruning.sz ls b.lines) last k.lines) in
+    same_audit a b (h.side_is ∙ sym k.side_is) (h.percent_is ∙ sym k.percent_is) (h.adjacency_is ∙ sym k.adjacency_is)
+    (AreShownLines-unique m whole side t h.pruning.sz h.last firm a.lines b.lines h.lines other)

@@ -28,7 +28,8 @@ use Rattle.hd_audit.proofs.CutIs.{rank-none, IsPit-kept, rank_at-kept, CutIs-uni
 pub IsLineOf-line : (lines : List AuditLine) (k i : ℕ) → k < length lines → (line_at lines k).index ≡ i → IsLineOf lines i (line_at lines k)
 IsLineOf-line lines k i inside e = record { listed = Contains-get_or lines k (record { index = 0; parent = None; cut = None }) inside; index = e }
 
-module _ (m : Map) (whole : IsMap m) (side : SideName) (thousandths : ℕ) (sz : ℤ) (kept : List Rank) (firm : AreFirm m side thousandths sz kept) (in_order : AllPairs (λ (a : Rank) (b : Rank). a.index < b.index) kept)
+module _ (m : Map) (whole : IsMap m) (side : SideName) (thousandths : ℕ) (sz : ℤ) (kept : List Rank) (firm : AreFirm m side thousandths sz kept)
+    (in_order : AllPairs (λ (a : Rank) (b : Rank). a.index < b.index) kept)
     (lines : List AuditLine) (shown : AreShownLines m side thousandths sz kept lines) where
   pub AreShownTo-all : AreShownTo m side thousandths sz kept lines (length lines)
   AreShownTo-all = record { enough = shown.enough; pits = shown.pits; others = shown.others; cuts = shown.cuts }
@@ -155,7 +156,8 @@ module _ (m : Map) (whole : IsMap m) (side : SideName) (thousandths : ℕ) (sz :
       let point = point_of m q leak.neighbour.to in
       let at = IsAmong-all y point in
       let is : rank_at m (line_at lines at.0).index ≡ y = ap (rank_at m) at.2 ∙ rank_at-index m y point in
-      let there : CutIs m side thousandths sz kept (rank_at m (line_at lines at.0).index) (Some c) = subst (λ (z : Rank). CutIs m side thousandths sz kept z (Some c)) (sym is) (r, h.1, h.2, reached) in
+      let there : CutIs m side thousandths sz kept (rank_at m (line_at lines at.0).index) (Some c) = subst (λ (z : Rank). CutIs m side thousandths sz kept z (Some c)) (sym is)
+      (r, h.1, h.2, reached) in
       leak.outside (
         line_at lines at.0,
         IsLineOf-line lines at.0 (place_of m.size q) at.1 at.2,

@@ -30,9 +30,11 @@ module _ (head : words.AuditHead) (lines : List AuditLine) where
     point_by o form =
         let step : left ≡ suc (left - 1) = omega (arith, some) in
         ap (λ (n : ℕ). points_on head lines n (numbered number (words ∷ more))) step
-        ∙ ap (λ (o : Option AuditLine). and_then (and_then (line_gives number more o) (λ x rest. and_then (points_in (left - 1) rest) (λ xs rest. Ok (x ∷ xs, rest)))) (λ more rest. after_points head (lines ++ more) rest)) form
+        ∙ ap (λ (o : Option AuditLine). and_then (and_then (line_gives number more o) (λ x rest. and_then (points_in (left - 1) rest) (λ xs rest. Ok (x ∷ xs, rest))))
+        (λ more rest. after_points head (lines ++ more) rest)) form
 
-    pub points_on-read : (x : AuditLine) → point_form words ≡ Some x → points_on head lines left (numbered number (words ∷ more)) ≡ points_on head (lines ++ x ∷ []) (left - 1) (numbered (number + 1) more)
+    pub points_on-read : (x : AuditLine) → point_form words ≡ Some x → points_on head lines left (numbered number (words ∷ more))
+        ≡ points_on head (lines ++ x ∷ []) (left - 1) (numbered (number + 1) more)
     points_on-read x form = point_by (Some x) form ∙ one_more x (points_in (left - 1) (numbered (number + 1) more))
 
     pub points_on-unread : point_form words ≡ None → points_on head lines left (numbered number (words ∷ more)) ≡ Err (BadLine number)
@@ -50,5 +52,6 @@ BeginsWithLine-shorter text rest x begins = let some = begins.some in omega (ari
 
 module _ (old : Stage) (number : ℕ) (text line rest : List ℕ) (first : lines_of text ≡ line ∷ lines_of rest) (more : List (List (List ℕ))) where
   -- the first line of a text is read
-  pub go_on-line : (new : Stage) → Leads old number (words_of line ∷ []) new (number + 1) → go_on old (numbered number (words_in text ++ more)) ≡ go_on new (numbered (number + 1) (words_in rest ++ more))
+  pub go_on-line : (new : Stage) → Leads old number (words_of line ∷ []) new (number + 1)
+      → go_on old (numbered number (words_in text ++ more)) ≡ go_on new (numbered (number + 1) (words_in rest ++ more))
   go_on-line new leads = ap (λ (ls : List (List ℕ)). go_on old (numbered number (map words_of ls ++ more))) first ∙ leads (words_in rest ++ more)

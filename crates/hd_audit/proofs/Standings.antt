@@ -38,28 +38,32 @@ AreStanding-seen m side level standings i are = record {
     | inl here ↦
         let cells = place_inside m.size q inside in
         let long = are.whole in
-        let is : standing_at (set standings i Seen) (place_of m.size q) ≡ Seen = ap (standing_at (set standings i Seen)) here ∙ get_or-set_same standings i Seen Absent (omega (arith, cells, long, here)) in
+        let is : standing_at (set standings i Seen) (place_of m.size q) ≡ Seen = ap (standing_at (set standings i Seen)) here
+        ∙ get_or-set_same standings i Seen Absent (omega (arith, cells, long, here)) in
         subst (Stands m side level q) (sym is) tt
     | inr apart ↦ subst (Stands m side level q) (sym (get_or-set_other standings i (place_of m.size q) Seen Absent apart)) (are.each q inside)
   ];
 }
 
 -- an unseen point over the level is noted
-pub OffersIfPresent-over : {S : Type 0} (m : Map) (side : SideName) (at : Pos) (from : ℕ) (level : Option Rank) (standings : List Standing) (ahead : List (Option ℕ)) (low : List (Waiting S)) → InGrid m.size at → AreStanding m side level standings → standing_at standings (place_of m.size at) ≡ Over
+pub OffersIfPresent-over : {S : Type 0} (m : Map) (side : SideName) (at : Pos) (from : ℕ) (level : Option Rank) (standings : List Standing) (ahead : List (Option ℕ))
+    (low : List (Waiting S)) → InGrid m.size at → AreStanding m side level standings → standing_at standings (place_of m.size at) ≡ Over
     → OffersIfPresent m side at from level (seen_of standings) ahead low (seen_of (set standings (place_of m.size at) Seen)) (set ahead (place_of m.size at) (Some from)) low
 OffersIfPresent-over m side at from level standings ahead low inside are is =
     let s : Stands m side level at Over = subst (Stands m side level at) is (are.each at inside) in
     inl (s.0, inr (seen_of-standing standings (place_of m.size at) ∙ ap is_seen is, map-set is_seen standings (place_of m.size at) Seen, inr (s.1, refl, refl)))
 
 -- one below it is put into the heap
-pub OffersIfPresent-under : {S : Type 0} (m : Map) (side : SideName) (at : Pos) (from : ℕ) (level : Option Rank) (standings : List Standing) (ahead : List (Option ℕ)) (low low' : List (Waiting S)) → InGrid m.size at → AreStanding m side level standings → standing_at standings (place_of m.size at) ≡ Under
+pub OffersIfPresent-under : {S : Type 0} (m : Map) (side : SideName) (at : Pos) (from : ℕ) (level : Option Rank) (standings : List Standing) (ahead : List (Option ℕ))
+    (low low' : List (Waiting S)) → InGrid m.size at → AreStanding m side level standings → standing_at standings (place_of m.size at) ≡ Under
     → Adds m at from low low' → OffersIfPresent m side at from level (seen_of standings) ahead low (seen_of (set standings (place_of m.size at) Seen)) ahead low'
 OffersIfPresent-under m side at from level standings ahead low low' inside are is adds =
     let s : Stands m side level at Under = subst (Stands m side level at) is (are.each at inside) in
     inl (s.0, inr (seen_of-standing standings (place_of m.size at) ∙ ap is_seen is, map-set is_seen standings (place_of m.size at) Seen, inl (s.1, refl, adds)))
 
 -- where a point stands below the level it is present
-pub Present-under : (m : Map) (side : SideName) (level : Option Rank) (standings : List Standing) (at : Pos) → InGrid m.size at → AreStanding m side level standings → standing_at standings (place_of m.size at) ≡ Under → Present m at
+pub Present-under : (m : Map) (side : SideName) (level : Option Rank) (standings : List Standing) (at : Pos) → InGrid m.size at → AreStanding m side level standings
+    → standing_at standings (place_of m.size at) ≡ Under → Present m at
 Present-under m side level standings at inside are is = (subst (Stands m side level at) is (are.each at inside)).0
 
 none-stands : (n i : ℕ) → standing_at (replicate n Absent) i ≡ Absent
@@ -86,8 +90,13 @@ module _ (m : Map) (n : ℕ) (standings : List Standing) (inside : n < cell_coun
     whole = length-set standings n Over ∙ are.whole;
     blank = map-set_same is_seen standings n Over Absent (sym (ap is_seen (are.rest n (omega arith)))) ∙ are.blank;
     each = λ q here less. elim (cases_eq (place_of m.size q) n) [
-      | inl last ↦ inl (ap (standing_at (set standings n Over)) last ∙ get_or-set_same standings n Over Absent (let long = are.whole in omega (arith, inside, long)), subst (Present m) (sym (stands-at q here last)) present)
-      | inr apart ↦ subst (λ s. ((s ≡ Over) × Present m q) ⊎ ((s ≡ Absent) × (Present m q → ⊥))) (sym (get_or-set_other standings n (place_of m.size q) Over Absent apart)) (are.each q here (omega (arith, less, apart)))
+      | inl last ↦ inl (
+        ap (standing_at (set standings n Over)) last ∙ get_or-set_same standings n Over Absent (let long = are.whole in omega (arith, inside, long)),
+        subst
+            (Present m) (sym (stands-at q here last)) present,
+      )
+      | inr apart ↦ subst (λ s. ((s ≡ Over) × Present m q) ⊎ ((s ≡ Absent) × (Present m q → ⊥))) (sym (get_or-set_other standings n (place_of m.size q) Over Absent apart))
+          (are.each q here (omega (arith, less, apart)))
     ];
     rest = λ i from. get_or-set_other standings n i Over Absent (λ e. omega (arith, from, e)) ∙ are.rest i (omega (arith, from));
   }
@@ -128,7 +137,8 @@ module _ (m : Map) (side : SideName) (points : List Rank) (order : AreInOrder m 
           | inl before ↦ before
           | inr after ↦ absurd (false≢true (sym (elim (cases_eq k c.0) [
             | inl same ↦ subst (λ j. below_by side r (get_or points j d) ≡ false) (sym same) (subst (λ (x : Rank). below_by side r x ≡ false) (sym at) ((below_by-order side).irreflexive r))
-            | inr apart ↦ below-not_above (below_by side) (below_by-order side) (get_or points k d) r (subst (λ (x : Rank). below_by side (get_or points k d) x ≡ true) at (order.rises k c.0 d (omega (arith, after, apart)) c.1))
+            | inr apart ↦ below-not_above (below_by side) (below_by-order side) (get_or points k d) r
+                (subst (λ (x : Rank). below_by side (get_or points k d) x ≡ true) at (order.rises k c.0 d (omega (arith, after, apart)) c.1))
           ]) ∙ below))
         ],
         at,
@@ -152,7 +162,8 @@ module _ (m : Map) (side : SideName) (points : List Rank) (order : AreInOrder m 
   under-next k d r more below = (below_by-order side).transitive r (get_or points k d) (get_or points (k + 1) d) below (order.rises k (k + 1) d (omega arith) more)
 
   -- the point itself is below the next
-  stands-here : (k : ℕ) (d : Rank) (q : Pos) (s : Standing) → k + 1 < length points → place_of m.size q ≡ (get_or points k d).index → Stands m side (Some (get_or points k d)) q s → Stands m side (Some (get_or points (k + 1) d)) q (passed s)
+  stands-here : (k : ℕ) (d : Rank) (q : Pos) (s : Standing) → k + 1 < length points → place_of m.size q ≡ (get_or points k d).index → Stands m side (Some (get_or points k d)) q s
+      → Stands m side (Some (get_or points (k + 1) d)) q (passed s)
   stands-here k d q Absent more here stands = stands
   stands-here k d q Over more here stands =
       let point = order.each (get_or points k d) (Contains-get_or points k d (omega (arith, more))) in
@@ -162,7 +173,8 @@ module _ (m : Map) (side : SideName) (points : List Rank) (order : AreInOrder m 
   stands-here k d q Seen more here stands = tt
 
   -- of the others none comes to be below it
-  stands-next : (k : ℕ) (d : Rank) (q : Pos) (s : Standing) → k + 1 < length points → (place_of m.size q ≡ (get_or points k d).index → ⊥) → Stands m side (Some (get_or points k d)) q s → Stands m side (Some (get_or points (k + 1) d)) q s
+  stands-next : (k : ℕ) (d : Rank) (q : Pos) (s : Standing) → k + 1 < length points → (place_of m.size q ≡ (get_or points k d).index → ⊥)
+      → Stands m side (Some (get_or points k d)) q s → Stands m side (Some (get_or points (k + 1) d)) q s
   stands-next k d q Absent more apart stands = stands
   stands-next k d q Over more apart stands = (
     stands.0,
@@ -190,7 +202,8 @@ module _ (m : Map) (side : SideName) (points : List Rank) (order : AreInOrder m 
               let cells = place_inside m.size q inside in
               let long = are.whole in
               let new : standing_at (set standings i s) (place_of m.size q) ≡ s = ap (standing_at (set standings i s)) here ∙ get_or-set_same standings i s Absent (omega (arith, cells, long, here)) in
-              let old : Stands m side (Some (get_or points k d)) q (standing_at standings i) = subst (λ j. Stands m side (Some (get_or points k d)) q (standing_at standings j)) here (are.each q inside) in
+              let old : Stands m side (Some (get_or points k d)) q (standing_at standings i) = subst
+              (λ j. Stands m side (Some (get_or points k d)) q (standing_at standings j)) here (are.each q inside) in
               subst (Stands m side (Some (get_or points (k + 1) d)) q) (sym new) (stands-here k d q (standing_at standings i) more (here ∙ is) old)
           | inr apart ↦ subst (Stands m side (Some (get_or points (k + 1) d)) q) (sym (get_or-set_other standings i (place_of m.size q) s Absent apart))
               (stands-next k d q (standing_at standings (place_of m.size q)) more (λ e. apart (e ∙ sym is)) (are.each q inside))

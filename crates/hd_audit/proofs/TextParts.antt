@@ -31,4 +31,5 @@ pub audit_text-parts : (a : Audit) (points : List AuditLine) → points ≡ a.li
 audit_text-parts a points e =
     let head : List ℕ = line_text (codes "pruning" ∷ side_word a.side ∷ percent_text a.percent.thousandths ∷ adjacency_word a.adjacency ∷ []) in
     rw e (ap (λ (t : List ℕ). head ++ t)
-    (flat_map-append line_text (points_lines a.lines) ((codes "end" ∷ []) ∷ []) ∙ ap (λ (t : List ℕ). t ++ (codes "end" ++ 10 ∷ [])) (line_text-counted point_words (codes "points") (decimal (length a.lines)) a.lines)))
+    (flat_map-append line_text (points_lines a.lines) ((codes "end" ∷ []) ∷ []) ∙ ap (λ (t : List ℕ). t ++ (codes "end" ++ 10 ∷ []))
+    (line_text-counted point_words (codes "points") (decimal (length a.lines)) a.lines)))

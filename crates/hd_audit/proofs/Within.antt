@@ -111,7 +111,8 @@ module _ (m : Map) (side : SideName) (thousandths : ℕ) (sz : ℤ) where
 
   pub ReachesWithin-from_points : (c a x : Rank) (xs : List Rank) → Leads (Near m) a xs x → All (IsWithin side thousandths sz c) xs → ReachesWithin c a x
   ReachesWithin-from_points c a x [] l all = subst (λ z. ReachesWithin c a z) l here
-  ReachesWithin-from_points c a x (y ∷ ys) l all = step (l.0, All-head (IsWithin side thousandths sz c) y ys all) (ReachesWithin-from_points c y x ys l.1 (All-tail (IsWithin side thousandths sz c) y ys all))
+  ReachesWithin-from_points c a x (y ∷ ys) l all = step (l.0, All-head (IsWithin side thousandths sz c) y ys all)
+      (ReachesWithin-from_points c y x ys l.1 (All-tail (IsWithin side thousandths sz c) y ys all))
 
   pub ReachesWithin-points : (c : Rank) {a x : Rank} → ReachesWithin c a x → (xs : List Rank) × Leads (Near m) a xs x × All (IsWithin side thousandths sz c) xs
   ReachesWithin-points c here = ([], refl, All-nil (IsWithin side thousandths sz c))

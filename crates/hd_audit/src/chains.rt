@@ -25,7 +25,8 @@ pub fn first_far<G: Heights>(
 ) -> Result<Option<Pos>, Memory>
     requires new { NewPoints (G.map surface.now) lines.now None }
     requires parents { ParentsEarlier (G.map surface.now) lines.now None }
-    ensures { IfOk result (ChainsWithin (G.map surface.now) limit.now.side limit.now.percent.thousandths limit.now.sz lines.now) }
+    ensures { IfOk result (ChainsWithin (G.map surface.now) limit.now.side
+        limit.now.percent.thousandths limit.now.sz lines.now) }
 {
     let mut tops = vec![in alloc; 0i64; cells_of(surface) as usize]?;
     for k in 0..lines.len() {
@@ -44,7 +45,9 @@ fn is_far<G: Heights>(alloc: Global, surface: &G, limit: &Limit, line: AuditLine
     requires inside { line.index < cell_count (G.map surface.now).size }
     requires present { Present (G.map surface.now) (position_at (G.map surface.now).size line.index) }
     requires top { (x : Rank) × IsPoint (G.map surface.now) x × (x.height ≡ top) }
-    ensures { (x : Rank) → x.height ≡ top → IsTrue result ↔ ((line.parent ≡ None → ⊥) × IsPit (G.map surface.now) limit.now.side (rank_at (G.map surface.now) line.index)
+    ensures { (x : Rank) → x.height ≡ top → IsTrue result
+        ↔ ((line.parent ≡ None → ⊥) × IsPit (G.map surface.now) limit.now.side
+        (rank_at (G.map surface.now) line.index)
         × (IsWithin limit.now.side limit.now.percent.thousandths limit.now.sz (rank_at (G.map surface.now) line.index) x → ⊥)) }
 {
     if line.parent.is_none() {

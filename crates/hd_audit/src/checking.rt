@@ -46,7 +46,8 @@ fn try_rules<G: Heights>(
     limit: &Limit,
     lines: &AuditLines,
 ) -> Result<Verdict, Memory>
-    ensures { IfOk result (TriedFrom 12 (rules_of (G.map surface.now) limit.now.side limit.now.percent.thousandths limit.now.sz lines.now)) }
+    ensures { IfOk result (TriedFrom 12 (rules_of
+        (G.map surface.now) limit.now.side limit.now.percent.thousandths limit.now.sz lines.now)) }
 {
     let mut places = PlaceTable::new(alloc, cells_of(surface) as usize)?;
     if let Some(at) = first_not_new(surface, lines, &mut places) {

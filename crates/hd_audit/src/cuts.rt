@@ -26,7 +26,8 @@ pub fn first_leak<G: Heights>(
     requires new { NewPoints (G.map surface.now) lines.now None }
     requires places { AreAllPlaces (G.map surface.now) lines.now places.now }
     requires cuts { CutsOfKept (G.map surface.now) limit.now.side lines.now None }
-    ensures { CutsClosed (G.map surface.now) limit.now.side limit.now.percent.thousandths limit.now.sz lines.now result }
+    ensures { CutsClosed (G.map surface.now) limit.now.side limit.now.percent.thousandths
+        limit.now.sz lines.now result }
 {
     for k in 0..lines.len() {
         if let Some(q) = leak_of(alloc, surface, limit, lines, places, k) {
@@ -49,7 +50,8 @@ fn leak_of<G: Heights>(
     requires new { NewPoints (G.map surface.now) lines.now None }
     requires places { AreAllPlaces (G.map surface.now) lines.now places.now }
     requires cuts { CutsOfKept (G.map surface.now) limit.now.side lines.now None }
-    ensures { FirstLeak (G.map surface.now) limit.now.side limit.now.percent.thousandths limit.now.sz lines.now k result }
+    ensures { FirstLeak (G.map surface.now) limit.now.side limit.now.percent.thousandths
+        limit.now.sz lines.now k result }
 {
     let line = lines.at(k);
     match line.cut {
@@ -72,7 +74,8 @@ fn leak_round<G: Heights>(
     requires inside { cut < cell_count (G.map surface.now).size }
     requires kept { Present (G.map surface.now) (position_at (G.map surface.now).size cut) }
     requires index { index < cell_count (G.map surface.now).size }
-    ensures { FirstLeakRound (G.map surface.now) limit.now.side limit.now.percent.thousandths limit.now.sz lines.now cut (position_at (G.map surface.now).size index) result }
+    ensures { FirstLeakRound (G.map surface.now) limit.now.side limit.now.percent.thousandths
+        limit.now.sz lines.now cut (position_at (G.map surface.now).size index) result }
 {
     let pit = rank_of(surface, position_in(surface, cut));
     let at = position_in(surface, index);
@@ -94,7 +97,8 @@ fn first_leaking<G: Heights>(
     requires pit { pit ≡ rank_at (G.map surface.now) cut }
     requires kept { Present (G.map surface.now) (position_at (G.map surface.now).size cut) }
     requires present { (j : ℕ) → j < length round.now → Present (G.map surface.now) (point_of round.now j) }
-    ensures { FirstLeaking (G.map surface.now) limit.now.side limit.now.percent.thousandths limit.now.sz lines.now cut round.now result }
+    ensures { FirstLeaking (G.map surface.now) limit.now.side limit.now.percent.thousandths
+        limit.now.sz lines.now cut round.now result }
 {
     for j in 0..round.len() {
         if leaks_to(surface, limit, lines, places, cut, pit, round[j]) {
@@ -118,7 +122,8 @@ fn leaks_to<G: Heights>(
     requires pit { pit ≡ rank_at (G.map surface.now) cut }
     requires kept { Present (G.map surface.now) (position_at (G.map surface.now).size cut) }
     requires at { Present (G.map surface.now) at }
-    ensures { IsTrue result ↔ LeaksTo (G.map surface.now) limit.now.side limit.now.percent.thousandths limit.now.sz lines.now cut at }
+    ensures { IsTrue result ↔ LeaksTo (G.map surface.now) limit.now.side
+        limit.now.percent.thousandths limit.now.sz lines.now cut at }
 {
     if !is_within(limit, pit, rank_of(surface, at)) {
         return false;

@@ -40,7 +40,9 @@ pub fn spread<S: Side, G: Heights>(
     requires ahead { length front.old.ahead ≡ cell_count (G.map grid.now).size }
     requires few { from < 4294967295 }
     requires heap { IsLowestFirst S.NAME (heap_items front.old.low) }
-    ensures spreads { OnOk result (SpreadsRound (G.map grid.now) S.NAME at from level.now (seen_of front.old.standing.items) front.old.ahead (heap_items front.old.low) (seen_of front.new.standing.items) front.new.ahead (heap_items front.new.low)) }
+    ensures spreads { OnOk result (SpreadsRound (G.map grid.now) S.NAME at from level.now
+        (seen_of front.old.standing.items) front.old.ahead (heap_items front.old.low)
+        (seen_of front.new.standing.items) front.new.ahead (heap_items front.new.low)) }
     ensures standing { OnOk result (AreStanding (G.map grid.now) S.NAME level.now front.new.standing.items) }
     ensures ahead { OnOk result (length front.new.ahead ≡ cell_count (G.map grid.now).size) }
     ensures heap { OnOk result (IsLowestFirst S.NAME (heap_items front.new.low)) }
@@ -76,7 +78,9 @@ fn offer_at<S: Side, G: Heights>(
     requires ahead { length front.old.ahead ≡ cell_count (G.map grid.now).size }
     requires few { from < 4294967295 }
     requires heap { IsLowestFirst S.NAME (heap_items front.old.low) }
-    ensures offers { OnOk result (OffersAt (G.map grid.now) S.NAME at x y from level.now (seen_of front.old.standing.items) front.old.ahead (heap_items front.old.low) (seen_of front.new.standing.items) front.new.ahead (heap_items front.new.low)) }
+    ensures offers { OnOk result (OffersAt (G.map grid.now) S.NAME at x y from level.now
+        (seen_of front.old.standing.items) front.old.ahead (heap_items front.old.low)
+        (seen_of front.new.standing.items) front.new.ahead (heap_items front.new.low)) }
     ensures standing { OnOk result (AreStanding (G.map grid.now) S.NAME level.now front.new.standing.items) }
     ensures ahead { OnOk result (length front.new.ahead ≡ cell_count (G.map grid.now).size) }
     ensures heap { OnOk result (IsLowestFirst S.NAME (heap_items front.new.low)) }
@@ -101,7 +105,9 @@ fn offer<S: Side, G: Heights>(
     requires ahead { length front.old.ahead ≡ cell_count (G.map grid.now).size }
     requires few { from < 4294967295 }
     requires heap { IsLowestFirst S.NAME (heap_items front.old.low) }
-    ensures offers { OnOk result (OffersIfPresent (G.map grid.now) S.NAME at from level.now (seen_of front.old.standing.items) front.old.ahead (heap_items front.old.low) (seen_of front.new.standing.items) front.new.ahead (heap_items front.new.low)) }
+    ensures offers { OnOk result (OffersIfPresent (G.map grid.now) S.NAME at from level.now
+        (seen_of front.old.standing.items) front.old.ahead (heap_items front.old.low)
+        (seen_of front.new.standing.items) front.new.ahead (heap_items front.new.low)) }
     ensures standing { OnOk result (AreStanding (G.map grid.now) S.NAME level.now front.new.standing.items) }
     ensures ahead { OnOk result (length front.new.ahead ≡ cell_count (G.map grid.now).size) }
     ensures heap { OnOk result (IsLowestFirst S.NAME (heap_items front.new.low)) }
@@ -131,7 +137,9 @@ fn offer_low<S: Side, G: Heights>(
     requires ahead { length front.old.ahead ≡ cell_count (G.map grid.now).size }
     requires under { standing_at front.old.standing.items (place_of (G.map grid.now).size at) ≡ Under }
     requires heap { IsLowestFirst S.NAME (heap_items front.old.low) }
-    ensures offers { OnOk result (OffersIfPresent (G.map grid.now) S.NAME at from level.now (seen_of front.old.standing.items) front.old.ahead (heap_items front.old.low) (seen_of front.new.standing.items) front.new.ahead (heap_items front.new.low)) }
+    ensures offers { OnOk result (OffersIfPresent (G.map grid.now) S.NAME at from level.now
+        (seen_of front.old.standing.items) front.old.ahead (heap_items front.old.low)
+        (seen_of front.new.standing.items) front.new.ahead (heap_items front.new.low)) }
     ensures standing { OnOk result (AreStanding (G.map grid.now) S.NAME level.now front.new.standing.items) }
     ensures ahead { OnOk result (length front.new.ahead ≡ cell_count (G.map grid.now).size) }
     ensures heap { OnOk result (IsLowestFirst S.NAME (heap_items front.new.low)) }

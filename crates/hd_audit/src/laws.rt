@@ -29,12 +29,14 @@ pub fn right_pruning_certificate_names_the_kept_pits()
 
 /// The shown pruning certificate of a map is right on it.
 pub fn shown_pruning_certificate_is_right()
-    ensures { (m : Map) (side : SideName) (percent : Percent) (audit : Audit) → IsMap m → IsShown m side percent audit → IsRight m audit }
+    ensures { (m : Map) (side : SideName) (percent : Percent) (audit : Audit) → IsMap m
+        → IsShown m side percent audit → IsRight m audit }
 {}
 
 /// A map has one shown pruning certificate of a side and a percent at most.
 pub fn shown_pruning_certificate_is_determined()
-    ensures { (m : Map) (side : SideName) (percent : Percent) (a b : Audit) → IsMap m → IsShown m side percent a → IsShown m side percent b → a ≡ b }
+    ensures { (m : Map) (side : SideName) (percent : Percent) (a b : Audit) → IsMap m
+        → IsShown m side percent a → IsShown m side percent b → a ≡ b }
 {}
 
 /// A pruning certificate has one verdict at most on a map.

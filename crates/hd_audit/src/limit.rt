@@ -22,7 +22,8 @@ pub struct Limit {
 /// Whether a point x of a map is within its point c.
 pub fn is_within(limit: &Limit, c: Rank, x: Rank) -> bool
     requires { (m : Map) × IsMap m × IsPoint m c × IsPoint m x }
-    ensures { result ≡ is_percent_less (rise_over limit.now.side c x) limit.now.percent.thousandths limit.now.sz }
+    ensures { result ≡ is_percent_less (rise_over limit.now.side c x) limit.now.percent.thousandths
+        limit.now.sz }
 {
     is_height_within(limit, c, x.height)
 }
@@ -30,7 +31,9 @@ pub fn is_within(limit: &Limit, c: Rank, x: Rank) -> bool
 /// Whether the points of a map that have this height are within its point c.
 pub fn is_height_within(limit: &Limit, c: Rank, height: i64) -> bool
     requires { (m : Map) × IsMap m × IsPoint m c × (x : Rank) × IsPoint m x × (x.height ≡ height) }
-    ensures { (x : Rank) → x.height ≡ height → result ≡ is_percent_less (rise_over limit.now.side c x) limit.now.percent.thousandths limit.now.sz }
+    ensures { (x : Rank) → x.height ≡ height → result
+        ≡ is_percent_less (rise_over limit.now.side c x) limit.now.percent.thousandths
+        limit.now.sz }
 {
     percent_less(rise_over(limit.side, c, height), limit.percent, limit.sz)
 }

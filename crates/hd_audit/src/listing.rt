@@ -37,7 +37,9 @@ pub fn shown_lines<S: Side, G: Heights>(
     requires side { limit.now.side ≡ S.NAME }
     requires sz { SzIs (G.map grid.now) limit.now.sz }
     requires kept { AreKeptAlone (G.map grid.now) S.NAME limit.now.percent.thousandths kept.now }
-    ensures { IfOk result (λ lines. AreShownLines (G.map grid.now) S.NAME limit.now.percent.thousandths limit.now.sz (pits_kept kept.now) lines) }
+    ensures { IfOk result (λ lines. AreShownLines
+        (G.map grid.now) S.NAME limit.now.percent.thousandths limit.now.sz
+        (pits_kept kept.now) lines) }
 {
     let size = grid.size();
     let count = (size.profiles * size.points) as usize;
@@ -65,7 +67,8 @@ fn list_kept<S: Side, G: Heights>(
     requires standing { AreStanding (G.map grid.now) S.NAME None standing.old.items }
     requires blank { seen_of standing.old.items ≡ replicate (cell_count (G.map grid.now).size) false }
     requires empty { lines.old ≡ [] }
-    ensures begun { OnOk result (AreBegun (G.map grid.now) kept.now (length kept.now) (seen_of standing.new.items) lines.new) }
+    ensures begun { OnOk result (AreBegun (G.map grid.now) kept.now (length kept.now)
+        (seen_of standing.new.items) lines.new) }
     ensures standing { OnOk result (AreStanding (G.map grid.now) S.NAME None standing.new.items) }
 {
     for k in kept {
@@ -86,12 +89,16 @@ fn spread_kept<S: Side, G: Heights>(
     lines: &AuditLines,
     front: &mut Front<S>,
 ) -> Result<(), Memory>
-    requires front { IsFront (G.map grid.now) S.NAME lines.now None (seen_of front.old.standing.items) front.old.ahead (heap_items front.old.low) 0 }
+    requires front { IsFront (G.map grid.now) S.NAME lines.now None
+        (seen_of front.old.standing.items) front.old.ahead (heap_items front.old.low) 0 }
     requires few { length lines.now ≤ cell_count (G.map grid.now).size }
-    requires points { (k : ℕ) → k < length lines.now → IsPointAt (G.map grid.now) (line_at lines.now k).index }
+    requires points { (k : ℕ) → k < length lines.now
+        → IsPointAt (G.map grid.now) (line_at lines.now k).index }
     requires standing { AreStanding (G.map grid.now) S.NAME None front.old.standing.items }
     requires heap { IsLowestFirst S.NAME (heap_items front.old.low) }
-    ensures front { OnOk result (IsFront (G.map grid.now) S.NAME lines.now None (seen_of front.new.standing.items) front.new.ahead (heap_items front.new.low) (length lines.now)) }
+    ensures front { OnOk result (IsFront (G.map grid.now) S.NAME lines.now None
+        (seen_of front.new.standing.items) front.new.ahead (heap_items front.new.low)
+        (length lines.now)) }
     ensures standing { OnOk result (AreStanding (G.map grid.now) S.NAME None front.new.standing.items) }
     ensures heap { OnOk result (IsLowestFirst S.NAME (heap_items front.new.low)) }
 {
@@ -113,12 +120,16 @@ fn list_others<S: Side, G: Heights>(
     front: &mut Front<S>,
 ) -> Result<(), Memory>
     requires side { limit.now.side ≡ S.NAME }
-    requires firm { AreNotUndercut (G.map grid.now) S.NAME limit.now.percent.thousandths limit.now.sz kept.now }
-    requires shown { AreShownTo (G.map grid.now) S.NAME limit.now.percent.thousandths limit.now.sz (pits_kept kept.now) lines.old (length lines.old) }
-    requires front { IsFrontAt (G.map grid.now) S.NAME lines.old (seen_of front.old.standing.items) front.old.ahead (heap_items front.old.low) }
+    requires firm { AreNotUndercut (G.map grid.now) S.NAME limit.now.percent.thousandths
+        limit.now.sz kept.now }
+    requires shown { AreShownTo (G.map grid.now) S.NAME limit.now.percent.thousandths limit.now.sz
+        (pits_kept kept.now) lines.old (length lines.old) }
+    requires front { IsFrontAt (G.map grid.now) S.NAME lines.old
+        (seen_of front.old.standing.items) front.old.ahead (heap_items front.old.low) }
     requires standing { AreStanding (G.map grid.now) S.NAME None front.old.standing.items }
     requires heap { IsLowestFirst S.NAME (heap_items front.old.low) }
-    ensures { OnOk result (AreShownLines (G.map grid.now) S.NAME limit.now.percent.thousandths limit.now.sz (pits_kept kept.now) lines.new) }
+    ensures { OnOk result (AreShownLines (G.map grid.now) S.NAME limit.now.percent.thousandths
+        limit.now.sz (pits_kept kept.now) lines.new) }
 {
     let points = points_in_order::<S, G>(alloc, grid)?;
     let mut next = placed_at::<S, G>(grid, points.as_slice(), 0);
@@ -146,19 +157,25 @@ fn list_from<S: Side, G: Heights>(
     front: &mut Front<S>,
 ) -> Result<(), Memory>
     requires side { limit.now.side ≡ S.NAME }
-    requires firm { AreNotUndercut (G.map grid.now) S.NAME limit.now.percent.thousandths limit.now.sz kept.now }
-    requires shown { AreShownTo (G.map grid.now) S.NAME limit.now.percent.thousandths limit.now.sz (pits_kept kept.now) lines.old (length lines.old) }
-    requires front { IsFrontAt (G.map grid.now) S.NAME lines.old (seen_of front.old.standing.items) front.old.ahead (heap_items front.old.low) }
+    requires firm { AreNotUndercut (G.map grid.now) S.NAME limit.now.percent.thousandths
+        limit.now.sz kept.now }
+    requires shown { AreShownTo (G.map grid.now) S.NAME limit.now.percent.thousandths limit.now.sz
+        (pits_kept kept.now) lines.old (length lines.old) }
+    requires front { IsFrontAt (G.map grid.now) S.NAME lines.old
+        (seen_of front.old.standing.items) front.old.ahead (heap_items front.old.low) }
     requires point { IsPoint (G.map grid.now) point }
     requires present { Present (G.map grid.now) at }
     requires at { point ≡ rank (G.map grid.now) at }
     requires lowest { AreNotBelow (G.map grid.now) S.NAME front.old.ahead point }
     requires standing { AreStanding (G.map grid.now) S.NAME (Some point) front.old.standing.items }
     requires heap { IsLowestFirst S.NAME (heap_items front.old.low) }
-    ensures shown { OnOk result (AreShownTo (G.map grid.now) S.NAME limit.now.percent.thousandths limit.now.sz (pits_kept kept.now) lines.new (length lines.new)) }
-    ensures front { OnOk result (IsFrontAt (G.map grid.now) S.NAME lines.new (seen_of front.new.standing.items) front.new.ahead (heap_items front.new.low)) }
+    ensures shown { OnOk result (AreShownTo (G.map grid.now) S.NAME limit.now.percent.thousandths
+        limit.now.sz (pits_kept kept.now) lines.new (length lines.new)) }
+    ensures front { OnOk result (IsFrontAt (G.map grid.now) S.NAME lines.new
+        (seen_of front.new.standing.items) front.new.ahead (heap_items front.new.low)) }
     ensures passed { OnOk result (ArePassed (G.map grid.now) S.NAME front.new.ahead point) }
-    ensures standing { OnOk result (AreStanding (G.map grid.now) S.NAME (Some point) front.new.standing.items) }
+    ensures standing { OnOk result (AreStanding (G.map grid.now) S.NAME
+        (Some point) front.new.standing.items) }
     ensures heap { OnOk result (IsLowestFirst S.NAME (heap_items front.new.low)) }
 {
     let Some(from) = front.ahead.place_at(point.index) else {
@@ -181,15 +198,23 @@ fn list_low<S: Side, G: Heights>(
     front: &mut Front<S>,
 ) -> Result<(), Memory>
     requires side { limit.now.side ≡ S.NAME }
-    requires firm { AreNotUndercut (G.map grid.now) S.NAME limit.now.percent.thousandths limit.now.sz kept.now }
-    requires shown { AreShownTo (G.map grid.now) S.NAME limit.now.percent.thousandths limit.now.sz (pits_kept kept.now) lines.old (length lines.old) }
-    requires front { IsFront (G.map grid.now) S.NAME lines.old (Some level) (seen_of front.old.standing.items) front.old.ahead (heap_items front.old.low) (length lines.old) }
+    requires firm { AreNotUndercut (G.map grid.now) S.NAME limit.now.percent.thousandths
+        limit.now.sz kept.now }
+    requires shown { AreShownTo (G.map grid.now) S.NAME limit.now.percent.thousandths limit.now.sz
+        (pits_kept kept.now) lines.old (length lines.old) }
+    requires front { IsFront (G.map grid.now) S.NAME lines.old (Some level)
+        (seen_of front.old.standing.items) front.old.ahead (heap_items front.old.low)
+        (length lines.old) }
     requires standing { AreStanding (G.map grid.now) S.NAME (Some level) front.old.standing.items }
     requires heap { IsLowestFirst S.NAME (heap_items front.old.low) }
-    ensures shown { OnOk result (AreShownTo (G.map grid.now) S.NAME limit.now.percent.thousandths limit.now.sz (pits_kept kept.now) lines.new (length lines.new)) }
-    ensures front { OnOk result (IsFront (G.map grid.now) S.NAME lines.new (Some level) (seen_of front.new.standing.items) front.new.ahead (heap_items front.new.low) (length lines.new)) }
+    ensures shown { OnOk result (AreShownTo (G.map grid.now) S.NAME limit.now.percent.thousandths
+        limit.now.sz (pits_kept kept.now) lines.new (length lines.new)) }
+    ensures front { OnOk result (IsFront (G.map grid.now) S.NAME lines.new (Some level)
+        (seen_of front.new.standing.items) front.new.ahead (heap_items front.new.low)
+        (length lines.new)) }
     ensures empty { OnOk result (length (heap_items front.new.low) ≡ 0) }
-    ensures standing { OnOk result (AreStanding (G.map grid.now) S.NAME (Some level) front.new.standing.items) }
+    ensures standing { OnOk result (AreStanding (G.map grid.now) S.NAME
+        (Some level) front.new.standing.items) }
     ensures heap { OnOk result (IsLowestFirst S.NAME (heap_items front.new.low)) }
 {
     while let Some(next) = front.low.pop() {
@@ -219,9 +244,14 @@ fn list_point<S: Side, G: Heights>(
     requires standing { AreStanding (G.map grid.now) S.NAME (Some level) front.old.standing.items }
     requires ahead { length front.old.ahead ≡ cell_count (G.map grid.now).size }
     requires heap { IsLowestFirst S.NAME (heap_items front.old.low) }
-    ensures lines { OnOk result (lines.new ≡ lines.old ++ next_line (G.map grid.now) S.NAME limit.now.percent.thousandths limit.now.sz (line_at lines.old next.from) (rank_of_waiting next) ∷ []) }
-    ensures spreads { OnOk result (Spreads (G.map grid.now) S.NAME lines.new (length lines.old) (Some level) (seen_of front.old.standing.items) front.old.ahead (heap_items front.old.low) (seen_of front.new.standing.items) front.new.ahead (heap_items front.new.low)) }
-    ensures standing { OnOk result (AreStanding (G.map grid.now) S.NAME (Some level) front.new.standing.items) }
+    ensures lines { OnOk result (lines.new ≡ lines.old
+        ++ next_line (G.map grid.now) S.NAME limit.now.percent.thousandths limit.now.sz
+        (line_at lines.old next.from) (rank_of_waiting next) ∷ []) }
+    ensures spreads { OnOk result (Spreads (G.map grid.now) S.NAME lines.new (length lines.old)
+        (Some level) (seen_of front.old.standing.items) front.old.ahead (heap_items front.old.low)
+        (seen_of front.new.standing.items) front.new.ahead (heap_items front.new.low)) }
+    ensures standing { OnOk result (AreStanding (G.map grid.now) S.NAME
+        (Some level) front.new.standing.items) }
     ensures ahead { OnOk result (length front.new.ahead ≡ cell_count (G.map grid.now).size) }
     ensures heap { OnOk result (IsLowestFirst S.NAME (heap_items front.new.low)) }
 {
@@ -236,7 +266,8 @@ fn list_point<S: Side, G: Heights>(
 fn line_of<G: Heights>(grid: &G, limit: &Limit, parent: AuditLine, point: Rank) -> AuditLine
     requires point { IsPoint (G.map grid.now) point }
     requires cut { (c : ℕ) → parent.cut ≡ Some c → IsPointAt (G.map grid.now) c }
-    ensures { result ≡ next_line (G.map grid.now) limit.now.side limit.now.percent.thousandths limit.now.sz parent point }
+    ensures { result ≡ next_line (G.map grid.now) limit.now.side limit.now.percent.thousandths
+        limit.now.sz parent point }
 {
     AuditLine {
         index: point.index,
@@ -249,7 +280,8 @@ fn line_of<G: Heights>(grid: &G, limit: &Limit, parent: AuditLine, point: Rank) 
 fn cut_of<G: Heights>(grid: &G, limit: &Limit, cut: Option<u32>, point: Rank) -> Option<u32>
     requires point { IsPoint (G.map grid.now) point }
     requires cut { (c : ℕ) → cut ≡ Some c → IsPointAt (G.map grid.now) c }
-    ensures { result ≡ next_cut (G.map grid.now) limit.now.side limit.now.percent.thousandths limit.now.sz cut point }
+    ensures { result ≡ next_cut (G.map grid.now) limit.now.side limit.now.percent.thousandths
+        limit.now.sz cut point }
 {
     let index = cut?;
     let pit = rank_of(grid, position_of(grid.size(), index));

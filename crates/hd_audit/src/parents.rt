@@ -36,7 +36,8 @@ fn has_earlier_parent<G: Heights>(
     requires line { k < length lines.now }
     requires new { NewPoints (G.map surface.now) lines.now None }
     requires places { AreAllPlaces (G.map surface.now) lines.now places.now }
-    ensures { IsTrue result ↔ MatchOption (line_at lines.now k).parent (Unit {0}) (IsEarlierNeighbour (G.map surface.now) lines.now k) }
+    ensures { IsTrue result ↔ MatchOption (line_at lines.now k).parent (Unit {0})
+        (IsEarlierNeighbour (G.map surface.now) lines.now k) }
 {
     let line = lines.at(k);
     let Some(parent) = line.parent else {
@@ -140,7 +141,8 @@ fn has_kept_cut<G: Heights>(
     requires line { k < length lines.now }
     requires new { NewPoints (G.map surface.now) lines.now None }
     requires places { AreAllPlaces (G.map surface.now) lines.now places.now }
-    ensures { IsTrue result ↔ MatchOption (line_at lines.now k).cut (Unit {0}) (IsCutOf (G.map surface.now) side lines.now (line_at lines.now k)) }
+    ensures { IsTrue result ↔ MatchOption (line_at lines.now k).cut (Unit {0})
+        (IsCutOf (G.map surface.now) side lines.now (line_at lines.now k)) }
 {
     let line = lines.at(k);
     let Some(cut) = line.cut else {

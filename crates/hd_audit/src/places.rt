@@ -61,7 +61,9 @@ pub fn first_not_new<G: Heights>(
 // Whether a present point has this index, and no line is noted there.
 fn is_new<G: Heights>(surface: &G, places: &PlaceTable, index: u32) -> bool
     requires { length places.now ≡ cell_count (G.map surface.now).size }
-    ensures { IsTrue result ↔ ((index < cell_count (G.map surface.now).size) × Present (G.map surface.now) (position_at (G.map surface.now).size index) × (place_at places.now index ≡ None)) }
+    ensures { IsTrue result ↔ ((index < cell_count (G.map surface.now).size)
+        × Present (G.map surface.now) (position_at (G.map surface.now).size index)
+        × (place_at places.now index ≡ None)) }
 {
     index < cells_of(surface)
         && places.place_at(index).is_none()
@@ -94,7 +96,8 @@ fn has_line_if_present<G: Heights>(
 ) -> bool
     requires places { AreAllPlaces (G.map surface.now) _lines.now places.now }
     requires inside { index < cell_count (G.map surface.now).size }
-    ensures { IsTrue result ↔ (Present (G.map surface.now) (position_at (G.map surface.now).size index) → IsListed _lines.now index) }
+    ensures { IsTrue result ↔ (Present (G.map surface.now)
+        (position_at (G.map surface.now).size index) → IsListed _lines.now index) }
 {
     match places.place_at(index) {
         Some(_) => true,

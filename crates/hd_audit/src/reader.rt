@@ -51,7 +51,8 @@ impl AuditReader {
     /// `Memory` each later call answers `Memory`.
     pub fn feed(&mut self, alloc: Global, piece: &[u8]) -> Result<(), Memory>
         requires { fed_of self.old + length piece.now < 2 ^ 63 }
-        ensures ok { OnOk result ((bytes : Items ℕ) → StandsFor self.old bytes → StandsFor self.new (bytes ++ piece.now)) }
+        ensures ok { OnOk result ((bytes : Items ℕ) → StandsFor self.old bytes
+            → StandsFor self.new (bytes ++ piece.now)) }
         ensures err { OnErr result (IsSpent self.new) }
         ensures again { IsSpent self.old → IsErr result }
         ensures stays { StaysRefused self.old self.new }

@@ -88,7 +88,8 @@ fn take_plain_points(
     text: &[u8],
 ) -> Result<(Points, u64, &[u8]), Memory>
     requires { number + length text.now < 2 ^ 64 }
-    ensures { IfOk result (λ read. TakesPlain (Stage.Points points) number text.now (Stage.Points read.0) read.1 read.2.now) }
+    ensures { IfOk result (λ read. TakesPlain (Stage.Points points) number text.now
+        (Stage.Points read.0) read.1 read.2.now) }
 {
     let Points { head, lines, left } = points;
     let mut lines = lines;
@@ -182,7 +183,8 @@ fn take_end(
     number: u64,
     line: &[u8],
 ) -> Result<Stage, CertificateError>
-    ensures { Takes (Stage.Points (record { head = head; lines = lines; left = 0 })) number (words_of line.now) result }
+    ensures { Takes (Stage.Points (record { head = head; lines = lines; left = 0 })) number
+        (words_of line.now) result }
 {
     let words = split_words(alloc, line)?;
     match end_words(line, words.as_slice()) {

@@ -25,8 +25,10 @@ const _: () = prove!(size_of::<Standing>() == 1);
 
 /// How the points of a grid stand, in one byte each, before any is seen and without a level.
 pub fn standings<G: Heights>(alloc: Global, grid: &G) -> Result<Vec<Standing>, Memory>
-    ensures standing { IfOk result (λ standings. (side : SideName) → AreStanding (G.map grid.now) side None standings.items) }
-    ensures blank { IfOk result (λ standings. seen_of standings.items ≡ replicate (cell_count (G.map grid.now).size) false) }
+    ensures standing { IfOk result (λ standings. (side : SideName)
+        → AreStanding (G.map grid.now) side None standings.items) }
+    ensures blank { IfOk result (λ standings. seen_of standings.items
+        ≡ replicate (cell_count (G.map grid.now).size) false) }
 {
     let size = grid.size();
     let count = size.profiles * size.points;
@@ -45,7 +47,8 @@ pub fn standings<G: Heights>(alloc: Global, grid: &G) -> Result<Vec<Standing>, M
 #[inline]
 pub fn pass(standings: &mut Vec<Standing>, index: u32)
     requires { index < length standings.old.items }
-    ensures { standings.new.items ≡ slice_set standings.old.items index (passed (standing_at standings.old.items index)) }
+    ensures { standings.new.items ≡ slice_set standings.old.items index
+        (passed (standing_at standings.old.items index)) }
 {
     let index = index as usize;
     standings[index] = match standings[index] {

@@ -38,7 +38,9 @@ pub fn write_audit(out: &mut List<u8>, audit: &Audit) -> Result<(), Memory>
 
 // Adds `pruning S P N`.
 fn push_head(out: &mut List<u8>, audit: &Audit) -> Result<(), Memory>
-    ensures { Adds out.old out.new result (line_text (codes "pruning" ∷ side_word audit.now.side ∷ percent_text audit.now.percent.thousandths ∷ adjacency_word audit.now.adjacency ∷ [])) }
+    ensures { Adds out.old out.new result (line_text
+        (codes "pruning" ∷ side_word audit.now.side ∷ percent_text audit.now.percent.thousandths
+        ∷ adjacency_word audit.now.adjacency ∷ [])) }
 {
     push_text(out, b"pruning ")?;
     push_side(out, audit.side)?;
@@ -70,7 +72,8 @@ fn push_setting(out: &mut List<u8>, adjacency: Adjacency) -> Result<(), Memory>
 
 // Adds `points M` and the lines of the points.
 fn push_points(out: &mut List<u8>, points: &AuditLines) -> Result<(), Memory>
-    ensures { Adds out.old out.new result (codes "points " ++ (decimal (length points.now) ++ 10 ∷ flat_map point_line points.now)) }
+    ensures { Adds out.old out.new result (codes "points "
+        ++ (decimal (length points.now) ++ 10 ∷ flat_map point_line points.now)) }
 {
     push_text(out, b"points ")?;
     push_unsigned(out, points.len() as u64)?;

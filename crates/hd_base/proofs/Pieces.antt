@@ -1,5 +1,6 @@
 -- Bytes that are read or written piece by piece.
-use Rattle.std.proofs.Common.{◌≡◌, ◌<◌, ◌≤◌, ◌+◌, ℕ, List, [], ◌∷◌, ◌++◌, length, take, drop, min, Option, Some, None, refl, sym, ◌∙◌, ap, subst, arith, append-nil, length-drop, length-append, length-take, length-take-le}
+use Rattle.std.proofs.Common.{◌≡◌, ◌<◌, ◌≤◌, ◌+◌, ℕ, List, [], ◌∷◌, ◌++◌, length, take, drop, min, Option, Some, None, refl, sym, ◌∙◌, ap, subst, arith}
+use Rattle.std.proofs.Common.{append-nil, length-drop, length-append, length-take, length-take-le}
 use Rattle.std.specs.Io.KnownBytes.{Appends, Consumes, IsAtEnd, Keeps}
 use Rattle.std.proofs.KnownBytes.{Appends-trans, Consumes-kept, Consumes-trans}
 use Rattle.std.proofs.Math.Seq.{take-add, drop-append_seam}
@@ -54,7 +55,8 @@ left_after bytes got (Some rest) h = ap Some (sym (rw h (drop-append_seam got re
 pub TakesFew-more : (bytes got piece : List ℕ) (limit count : ℕ) (file mid left : Option (List ℕ)) → file ≡ Some bytes → Consumes file mid got → Consumes mid left (take count piece)
     → length got + length piece ≤ limit + 1 → TakesFew bytes limit left
 TakesFew-more bytes got piece limit count file mid left told before more fits =
-    let taken : Consumes (Some bytes) left (got ++ take count piece) = subst (λ (f : Option (List ℕ)). Consumes f left (got ++ take count piece)) told (Consumes-trans file mid left got (take count piece) before more) in (
+    let taken : Consumes (Some bytes) left (got ++ take count piece) = subst (λ (f : Option (List ℕ)). Consumes f left (got ++ take count piece)) told
+    (Consumes-trans file mid left got (take count piece) before more) in (
       length (got ++ take count piece),
       omega (arith, length-append got (take count piece), length-take count piece),
       left_after bytes (got ++ take count piece) left taken,
@@ -79,7 +81,8 @@ TakesFew-kept bytes got limit file mid left told before kept fits =
 pub pieces-past_limit : (bytes got piece all : List ℕ) (limit count : ℕ) (file mid left : Option (List ℕ)) → file ≡ Some bytes → Consumes file mid got → Consumes mid left (take count piece)
     → length got + length piece ≤ limit + 1 → all ≡ got ++ take count piece → limit < length all → (left ≡ Some (drop (limit + 1) bytes)) × (limit < length bytes)
 pieces-past_limit bytes got piece all limit count file mid left told before more fits is past =
-    let taken : Consumes (Some bytes) left all = rw is (subst (λ (f : Option (List ℕ)). Consumes f left (got ++ take count piece)) told (Consumes-trans file mid left got (take count piece) before more)) in
+    let taken : Consumes (Some bytes) left all = rw is (subst (λ (f : Option (List ℕ)). Consumes f left (got ++ take count piece)) told
+    (Consumes-trans file mid left got (take count piece) before more)) in
     let size : length all ≡ limit + 1 = omega (arith, ap length is, length-append got (take count piece), length-take count piece) in
     (subst (λ n. left ≡ Some (drop n bytes)) size (left_after bytes all left taken), omega (arith, starts left taken)) where
       starts : (rest : Option (List ℕ)) → Consumes (Some bytes) rest all → length all ≤ length bytes

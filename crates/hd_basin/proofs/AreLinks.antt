@@ -53,7 +53,11 @@ module _ (m : Map) (side : SideName) (t : ℕ) where
   onward-sink p s of =
       let sink = sink-is_sink m side t p s of in
       record {
-        same_sink = λ u. (λ h. subst (λ (z : Rank). IsSinkOf m side t s z) (sink-unique m side t p s u of h) (sink-own m side t s sink), λ h. subst (λ (z : Rank). IsSinkOf m side t p z) (sink-unique m side t s s u (sink-own m side t s sink) h) of);
+        same_sink = λ u. (
+          λ h. subst (λ (z : Rank). IsSinkOf m side t s z) (sink-unique m side t p s u of h) (sink-own m side t s sink),
+          λ h. subst
+              (λ (z : Rank). IsSinkOf m side t p z) (sink-unique m side t s s u (sink-own m side t s sink) h) of,
+        );
         below = λ other. elim (same_or_below (below_by side) (below_by-order side) s p (sink-not_above m side t p s of)) [ inl e ↦ absurd (other e) | inr h ↦ h ];
         stays = λ e. subst (λ (z : Rank). IsSink m side t z) e sink;
       }
@@ -86,14 +90,16 @@ pub told-apart : (h k : ℤ) → int_eq h k ≡ false → h ≡ k → ⊥
 told-apart h k e same = grind (arith, ints, nat_tests)
 
 -- where the rank at a place is missing, no point is present there
-pub low-absent : (m : Map) (side : SideName) → IsMap m → (y x : ℕ) (r : Rank) → IsLow m side (IsAtPlace y x) r → int_eq r.height (missing side).height ≡ true → (q : Pos) → q.y + 1 ≡ y → q.x + 1 ≡ x → Present m q → ⊥
+pub low-absent : (m : Map) (side : SideName) → IsMap m → (y x : ℕ) (r : Rank) → IsLow m side (IsAtPlace y x) r → int_eq r.height (missing side).height ≡ true → (q : Pos)
+    → q.y + 1 ≡ y → q.x + 1 ≡ x → Present m q → ⊥
 low-absent m side whole y x r of e q row column here = elim of.origin [
   | inl none ↦ low_missing m side whole (IsAtPlace y x) r of none q (record { profile = row; place = column }) here
   | inr one ↦ point_apart m side whole r one.at one.present one.low_is (told r.height (missing side).height e)
 ]
 
 -- and else it is that of the point there
-pub low-present : (m : Map) (side : SideName) (y x : ℕ) (r : Rank) → IsLow m side (IsAtPlace y x) r → int_eq r.height (missing side).height ≡ false → (q : Pos) → q.y + 1 ≡ y → q.x + 1 ≡ x → Present m q × (r ≡ rank m q)
+pub low-present : (m : Map) (side : SideName) (y x : ℕ) (r : Rank) → IsLow m side (IsAtPlace y x) r → int_eq r.height (missing side).height ≡ false → (q : Pos) → q.y + 1 ≡ y
+    → q.x + 1 ≡ x → Present m q × (r ≡ rank m q)
 low-present m side y x r of e q row column = elim of.origin [
   | inl none ↦ absurd (told-apart r.height (missing side).height e (ap (λ (z : Rank). z.height) none))
   | inr one ↦ (
@@ -108,7 +114,8 @@ low-own m side whole p r of here = elim of.origin [
   | inr one ↦ one.low_is ∙ ap (rank m) (same_pos one.at p (let a = one.chosen.place in omega (arith, a)) (let a = one.chosen.profile in omega (arith, a)))
 ]
 
-pub links-more : (m : Map) (side : SideName) (t : ℕ) (f : Frame) (n : ℕ) (links : List ℕ) (link : ℕ) → AreLinksTo m side t f n links → IsLink m side t f n link → AreLinksTo m side t f (n + 1) (links ++ link ∷ [])
+pub links-more : (m : Map) (side : SideName) (t : ℕ) (f : Frame) (n : ℕ) (links : List ℕ) (link : ℕ) → AreLinksTo m side t f n links → IsLink m side t f n link
+    → AreLinksTo m side t f (n + 1) (links ++ link ∷ [])
 links-more m side t f n links link are new = record {
   whole = length_push links link ∙ ap (λ (k : ℕ). k + 1) are.whole;
   each = λ k below. elim (cases_lt k n) [
@@ -162,7 +169,8 @@ module _ (m : Map) (side : SideName) (t : ℕ) (f : Frame) where
           let l = link_of k below here in
           let on : onward < f.columns * f.rows = subst (λ (j : ℕ). j < f.columns * f.rows) (sym moves.1) l.inside in
           let there : Present m (at_place f onward) = subst (λ (j : ℕ). Present m (at_place f j)) (sym moves.1) l.present in
-          let one : IsOnward m side t (rank m (at_place f k)) (rank m (at_place f onward)) = subst (λ (j : ℕ). IsOnward m side t (rank m (at_place f k)) (rank m (at_place f j))) (sym moves.1) l.onward in
+          let one : IsOnward m side t (rank m (at_place f k)) (rank m (at_place f onward)) = subst (λ (j : ℕ). IsOnward m side t (rank m (at_place f k)) (rank m (at_place f j)))
+          (sym moves.1) l.onward in
           let n = link_of onward on there in
           let two = onward-trans m side t (rank m (at_place f k)) (rank m (at_place f onward)) (rank m (at_place f (slice_index links onward)))
           (same_or_not m (at_place f k) (at_place f onward) here there) (same_or_not m (at_place f onward) (at_place f (slice_index links onward)) there n.present) one n.onward in
@@ -193,7 +201,8 @@ module _ (m : Map) (side : SideName) (t : ℕ) (f : Frame) where
     way_more whole start here way moves =
         let l = link_of here way.inside way.present in
         let to : ℕ = slice_index links here in
-        let apart : rank m (at_place f to) ≡ rank m (at_place f here) → ⊥ = λ e. moves (place-one f to here l.inside way.inside (same_point m (at_place f to) (at_place f here) l.present way.present e)) in (
+        let apart : rank m (at_place f to) ≡ rank m (at_place f here) → ⊥ = λ e. moves
+        (place-one f to here l.inside way.inside (same_point m (at_place f to) (at_place f here) l.present way.present e)) in (
           record {
             inside = l.inside;
             present = l.present;

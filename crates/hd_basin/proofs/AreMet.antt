@@ -1,5 +1,6 @@
 -- The pairs of neighbours of a tile, each tried once, and the passes from them.
-use Rattle.std.proofs.Common.{◌≡◌, ◌≢◌, ◌<◌, ◌≤◌, ◌+◌, ◌-◌, ◌*◌, ℕ, zero, suc, ◌⊎◌, inl, inr, List, [], get_or, slice_index, length, map, Option, Some, None, slice_get, refl, sym, ◌∙◌, ap, subst, arith}
+use Rattle.std.proofs.Common.{◌≡◌, ◌≢◌, ◌<◌, ◌≤◌, ◌+◌, ◌-◌, ◌*◌, ℕ, zero, suc, ◌⊎◌, inl, inr, List, [], get_or, slice_index, length, map, Option, Some}
+use Rattle.std.proofs.Common.{None, slice_get, refl, sym, ◌∙◌, ap, subst, arith}
 use Rattle.std.specs.Prelude.{AllPairs, Contains}
 use Rattle.std.proofs.Math.Nat.{mul-le-mul_right}
 use Rattle.std.proofs.lemmas.List.{get_or-map, length-map}
@@ -87,7 +88,8 @@ place-same : (f : Frame) (p q : Pos) → InFrame f p → InFrame f q → place_o
 place-same f p q here there e = sym (frame_step f p here).1 ∙ ap (at_place f) e ∙ (frame_step f q there).1
 
 -- what is kept of the same meetings is the same
-kept-map : (side : SideName) (E F : ℕ → ℕ → Rank → Type 0) (list : List Meeting) → ((a b : ℕ) (w : Rank) → E a b w → F a b w) → ((a b : ℕ) (w : Rank) → F a b w → E a b w) → AreKept side E list → AreKept side F list
+kept-map : (side : SideName) (E F : ℕ → ℕ → Rank → Type 0) (list : List Meeting) → ((a b : ℕ) (w : Rank) → E a b w → F a b w) → ((a b : ℕ) (w : Rank) → F a b w → E a b w)
+    → AreKept side E list → AreKept side F list
 kept-map side E F list to from kept = record {
   each = λ i x at. to x.a x.b x.at (kept.each i x at);
   every = λ a b w event. kept.every a b w (from a b w event);
@@ -99,12 +101,14 @@ label-inside : (ls : List ℕ) (k : ℕ) → k < length ls → get_or ls k no_no
 label-inside ls k inside = get_or_from_slice_get ls k (get_or ls k 0) no_node (slice_get-get_or ls k 0 inside)
 
 -- a place above another one and before one has its labels
-pub alone-inside : (f : Frame) (ls : List ℕ) (p : Pos) → length ls ≡ f.columns * f.rows → p.x - f.left + 1 < f.columns → p.y - f.top + 1 < f.rows → (p.y - f.top) * f.columns + (p.x - f.left) + f.columns + 1 < length ls
+pub alone-inside : (f : Frame) (ls : List ℕ) (p : Pos) → length ls ≡ f.columns * f.rows → p.x - f.left + 1 < f.columns → p.y - f.top + 1 < f.rows
+    → (p.y - f.top) * f.columns + (p.x - f.left) + f.columns + 1 < length ls
 alone-inside f ls p whole column row = (let rows = mul-le-mul_right f.columns (let h : p.y - f.top + 2 ≤ f.rows = omega (arith, row) in h) in omega (arith, rows, whole, column))
 
 -- the labels after that at a place, and below it
 module _ (f : Frame) (ls : List ℕ) (p : Pos) (within : InFrame f p) (k : ℕ) (at : k ≡ place_of_frame f p) (left : f.left < p.x) (inside : k + f.columns + 1 < length ls)
-    (after : slice_index ls (k + 1) ≡ slice_index ls k) (one : slice_index ls (k + f.columns - 1) ≡ slice_index ls k) (two : slice_index ls (k + f.columns) ≡ slice_index ls k) (three : slice_index ls (k + f.columns + 1) ≡ slice_index ls k) where
+    (after : slice_index ls (k + 1) ≡ slice_index ls k) (one : slice_index ls (k + f.columns - 1) ≡ slice_index ls k) (two : slice_index ls (k + f.columns) ≡ slice_index ls k)
+    (three : slice_index ls (k + f.columns + 1) ≡ slice_index ls k) where
   named-alike : (q : Pos) (j : ℕ) → place_of_frame f q ≡ j → j < length ls → slice_index ls j ≡ slice_index ls k → label_at f ls q ≡ label_at f ls p
   named-alike q j place below e =
       let own : k < length ls = omega (arith, inside) in
@@ -172,13 +176,29 @@ module _ (m : Map) (side : SideName) (f : Frame) (ls : List ℕ) (count : ℕ) w
       })
 
   -- what was tried with one more step was tried before, or is that step
-  earlier : (k s a b : ℕ) (w : Rank) (at : Pos) → InFrame f at → place_of_frame f at ≡ k → Met k (s + 1) a b w → Met k s a b w ⊎ ((q : Pos) × InFrame f q × IsStep at q s × IsPairAt m side f ls count at q a b w)
+  earlier : (k s a b : ℕ) (w : Rank) (at : Pos) → InFrame f at → place_of_frame f at ≡ k → Met k (s + 1) a b w → Met k s a b w
+      ⊎ ((q : Pos) × InFrame f q × IsStep at q s × IsPairAt m side f ls count at q a b w)
   earlier k s a b w at within place is =
       let t = is.tried in
       elim t.tried [
         | inl early ↦ inl (record { from = is.from; to = is.to; tried = record { from = t.from; to = t.to; step = t.step; few = t.few; leads = t.leads; tried = inl early }; pair = is.pair })
         | inr here ↦ elim (cases_lt t.step s) [
-          | inl before ↦ inl (record { from = is.from; to = is.to; tried = record { from = t.from; to = t.to; step = t.step; few = t.few; leads = t.leads; tried = inr (here.0, before) }; pair = is.pair })
+          | inl before ↦ inl (record {
+            from = is.from;
+            to = is.to;
+            tried = record {
+              from = t.from;
+              to = t.to;
+              step = t.step;
+              few = t.few;
+              leads = t.leads;
+              tried = inr (
+                here.0,
+                before,
+              );
+            };
+            pair = is.pair;
+          })
           | inr last ↦ (
               let step : t.step ≡ s = (let h = here.1 in omega (arith, last, h)) in
               let same : is.from ≡ at = place-same f is.from at t.from within (here.0 ∙ sym place) in
@@ -216,7 +236,8 @@ module _ (m : Map) (side : SideName) (f : Frame) (ls : List ℕ) (count : ℕ) w
     }
 
     -- or to a position of the tile
-    pub met-step : (q : Pos) → InFrame f q → s < 4 → IsStep at q s → (lasts' : List (Option ℕ)) (list' : List Meeting) → AreChained lasts' list' → length lasts' ≡ count → MeetsPair m side f ls count at q list list' → AreMet m side f ls count k (s + 1) lasts' list'
+    pub met-step : (q : Pos) → InFrame f q → s < 4 → IsStep at q s → (lasts' : List (Option ℕ)) (list' : List Meeting) → AreChained lasts' list' → length lasts' ≡ count
+        → MeetsPair m side f ls count at q list list' → AreMet m side f ls count k (s + 1) lasts' list'
     met-step q there few leads lasts' list' chained count_is meets = record {
       chained = chained;
       count_is = count_is;
@@ -229,7 +250,22 @@ module _ (m : Map) (side : SideName) (f : Frame) (ls : List ℕ) (count : ℕ) w
             let a : ℕ = one.0 in
             let b : ℕ = one.1 in
             let w : Rank = one.2 in
-            let mine : Met k (s + 1) a b w = record { from = at; to = q; tried = record { from = within; to = there; step = s; few = few; leads = leads; tried = inr (place, omega arith) }; pair = one.3 } in
+            let mine : Met k (s + 1) a b w = record {
+              from = at;
+              to = q;
+              tried = record {
+                from = within;
+                to = there;
+                step = s;
+                few = few;
+                leads = leads;
+                tried = inr (
+                  place,
+                  omega arith,
+                );
+              };
+              pair = one.3;
+            } in
             kept-map side (λ c d v. Met k s c d v ⊎ ((c ≡ a) × (d ≡ b) × (v ≡ w))) (Met k (s + 1)) list'
             (λ c d v event. elim event [
               | inl was ↦ later k s c d v was
@@ -254,7 +290,18 @@ module _ (m : Map) (side : SideName) (f : Frame) (ls : List ℕ) (count : ℕ) w
         record {
           from = is.from;
           to = is.to;
-          tried = record { from = t.from; to = t.to; step = t.step; few = t.few; leads = t.leads; tried = elim t.tried [ inl early ↦ inl (omega (arith, early)) | inr here ↦ inl (let e = here.0 in omega (arith, e)) ] };
+          tried = record {
+            from = t.from;
+            to = t.to;
+            step = t.step;
+            few = t.few;
+            leads = t.leads;
+            tried = elim t.tried [
+              | inl early ↦ inl (omega (arith, early))
+              | inr here ↦ inl
+                  (let e = here.0 in omega (arith, e))
+            ];
+          };
           pair = is.pair;
         }))
         (λ a b w is. (
@@ -280,7 +327,8 @@ module _ (m : Map) (side : SideName) (f : Frame) (ls : List ℕ) (count : ℕ) w
   }
 
   -- or where all its steps lead to its own label
-  pub met-by : (k : ℕ) (at : Pos) → InFrame f at → place_of_frame f at ≡ k → (lasts : List (Option ℕ)) (list : List Meeting) → IsAlone f ls at → AreMet m side f ls count k 0 lasts list → AreMet m side f ls count (k + 1) 0 lasts list
+  pub met-by : (k : ℕ) (at : Pos) → InFrame f at → place_of_frame f at ≡ k → (lasts : List (Option ℕ)) (list : List Meeting) → IsAlone f ls at
+      → AreMet m side f ls count k 0 lasts list → AreMet m side f ls count (k + 1) 0 lasts list
   met-by k at within place lasts list alone are =
       let one = met-alone k 0 at within place lasts list are (omega arith) alone in
       let two = met-alone k 1 at within place lasts list one (omega arith) alone in
@@ -314,7 +362,11 @@ module _ (m : Map) (side : SideName) (t tile : ℕ) (f : Frame) (some : 1 ≤ t)
   module _ (p q : Pos) (from : InFrame f p) (to : InFrame f q) where
     -- no two of three tests fail where the pair meets
     pub pair-equal : label_at f ls p ≡ label_at f ls q → (a b : ℕ) (w : Rank) → IsPairAt m side f ls (length nodes) p q a b w → ⊥
-    pair-equal e a b w is = (let less = is.less in elim is.labels [ inl h ↦ (let x = h.0 in let y = h.1 in omega (arith, x, y, e, less)) | inr h ↦ (let x = h.0 in let y = h.1 in omega (arith, x, y, e, less)) ])
+    pair-equal e a b w is = (let less = is.less in elim is.labels [
+      | inl h ↦ (let x = h.0 in let y = h.1 in omega (arith, x, y, e, less))
+      | inr h ↦
+          (let x = h.0 in let y = h.1 in omega (arith, x, y, e, less))
+    ])
 
     pub pair-few : (length nodes ≤ label_at f ls p) ⊎ (length nodes ≤ label_at f ls q) → (a b : ℕ) (w : Rank) → IsPairAt m side f ls (length nodes) p q a b w → ⊥
     pair-few past a b w is =
@@ -333,7 +385,8 @@ module _ (m : Map) (side : SideName) (t tile : ℕ) (f : Frame) (some : 1 ≤ t)
 
     -- at the higher of their ranks
     pub pair-up : IsMap m → (step : ℕ) → step < 4 → IsStep p q step → label_at f ls p < length nodes → label_at f ls q < length nodes → AreBesideUnder m.adjacency p q → (here there w : Rank)
-        → IsLow m side (IsAtPlace (p.y + 1) (p.x + 1)) here → IsLow m side (IsAtPlace (q.y + 1) (q.x + 1)) there → w ≡ higher_by side here there → Neighbour m p q × (w ≡ higher_by side (rank m p) (rank m q))
+        → IsLow m side (IsAtPlace (p.y + 1) (p.x + 1)) here → IsLow m side (IsAtPlace (q.y + 1) (q.x + 1)) there → w ≡ higher_by side here there → Neighbour m p q
+        × (w ≡ higher_by side (rank m p) (rank m q))
     pair-up whole step few leads one other beside here there w here_low there_low higher =
         let one_is : here ≡ rank m p = low-own m side whole p here here_low (label-present p from one) in
         let other_is : there ≡ rank m q = low-own m side whole q there there_low (label-present q to other) in
@@ -379,7 +432,15 @@ module _ (m : Map) (side : SideName) (t tile : ℕ) (f : Frame) (some : 1 ≤ t)
               v = v.0;
               u_at = u.1;
               v_at = v.1;
-              meeting = meeting-sym m side t v.0.low u.0.low w (record { from = rank m p; to = rank m q; near = record { from = p; to = q; neighbour = near; from_rank = refl; to_rank = refl }; from_in = v.2; to_in = u.2; higher = is.at });
+              meeting = meeting-sym m side t v.0.low u.0.low w (record {
+                from = rank m p;
+                to = rank m q;
+                near =
+                    record { from = p; to = q; neighbour = near; from_rank = refl; to_rank = refl };
+                from_in = v.2;
+                to_in = u.2;
+                higher = is.at;
+              });
               u_tile = point-tile q u.0.low to near.to u.2;
               v_tile = point-tile p v.0.low from near.from v.2;
               apart = λ e. (let same = named.distinct a b u.0 v.0 u.1 v.1 e in omega (arith, same, less));
@@ -390,7 +451,8 @@ module _ (m : Map) (side : SideName) (t tile : ℕ) (f : Frame) (some : 1 ≤ t)
   All = IsMet m side f ls (length nodes) (f.columns * f.rows) 0
 
   -- a pair of neighbours with two labels
-  pair-tried : (p q : Pos) (step i j : ℕ) (w : Rank) → step < 4 → IsStep p q step → Neighbour m p q → InFrame f p → InFrame f q → label_at f ls p ≡ i → label_at f ls q ≡ j → i < length nodes → j < length nodes → (i ≡ j → ⊥) → w ≡ higher_by side (rank m p) (rank m q)
+  pair-tried : (p q : Pos) (step i j : ℕ) (w : Rank) → step < 4 → IsStep p q step → Neighbour m p q → InFrame f p → InFrame f q → label_at f ls p ≡ i → label_at f ls q ≡ j
+      → i < length nodes → j < length nodes → (i ≡ j → ⊥) → w ≡ higher_by side (rank m p) (rank m q)
       → All i j w ⊎ All j i w
   pair-tried p q step i j w few leads near from to one other i_few j_few apart at =
       let tried : IsTried f (f.columns * f.rows) 0 p q = record { from = from; to = to; step = step; few = few; leads = leads; tried = inl (frame_step f p from).0 } in
@@ -445,10 +507,12 @@ module _ (m : Map) (side : SideName) (t tile : ℕ) (f : Frame) (some : 1 ≤ t)
 
     -- the pass of two nodes
     named-pass : (x : Meeting) (u v : Node) → slice_get nodes x.a ≡ Some u → slice_get nodes x.b ≡ Some v → pass_of x ≡ record { a = u.low; b = v.low; at = x.at }
-    named-pass x u v u_at v_at = (let a : low_or_none (slice_get nodes x.a) ≡ u.low = ap low_or_none u_at in let b : low_or_none (slice_get nodes x.b) ≡ v.low = ap low_or_none v_at in same-pass (low_or_none (slice_get nodes x.a)) (low_or_none (slice_get nodes x.b)) u.low v.low x.at a b)
+    named-pass x u v u_at v_at = (let a : low_or_none (slice_get nodes x.a) ≡ u.low = ap low_or_none u_at in let b : low_or_none (slice_get nodes x.b)
+        ≡ v.low = ap low_or_none v_at in same-pass (low_or_none (slice_get nodes x.a)) (low_or_none (slice_get nodes x.b)) u.low v.low x.at a b)
 
     -- a meeting is lowest of those of its two basins
-    lowest : (i : ℕ) (x : Meeting) (u v : Node) → slice_get list i ≡ Some x → slice_get nodes x.a ≡ Some u → slice_get nodes x.b ≡ Some v → tile_at m.size t u.low ≡ tile → tile_at m.size t v.low ≡ tile → u.low ≢ v.low
+    lowest : (i : ℕ) (x : Meeting) (u v : Node) → slice_get list i ≡ Some x → slice_get nodes x.a ≡ Some u → slice_get nodes x.b ≡ Some v → tile_at m.size t u.low ≡ tile
+        → tile_at m.size t v.low ≡ tile → u.low ≢ v.low
         → x.a < x.b → (w : Rank) → IsBasinMeeting m side t u.low v.low w → IsNotAbove (below_by side) x.at w
     lowest i x u v at u_at v_at u_tile v_tile apart less w mt =
         let met = meeting-met u.low v.low w u_tile v_tile apart mt in
@@ -469,7 +533,8 @@ module _ (m : Map) (side : SideName) (t tile : ℕ) (f : Frame) (some : 1 ≤ t)
     right-pass i x at =
         let mt = meets-of i x at in
         let event = kept.each i x at in
-        let right : IsRightPass m side t (record { a = mt.u.low; b = mt.v.low; at = x.at }) = record { apart = mt.apart; meeting = mt.meeting; lowest = lowest i x mt.u mt.v at mt.u_at mt.v_at mt.u_tile mt.v_tile mt.apart event.pair.less } in
+        let right : IsRightPass m side t (record { a = mt.u.low; b = mt.v.low; at = x.at }) =
+        record { apart = mt.apart; meeting = mt.meeting; lowest = lowest i x mt.u mt.v at mt.u_at mt.v_at mt.u_tile mt.v_tile mt.apart event.pair.less } in
         let is = named-pass x mt.u mt.v mt.u_at mt.v_at in (
           subst (λ (z : Pass). IsRightPass m side t z) (sym is) right,
           ap (λ (z : Pass). tile_at m.size t z.a) is ∙ mt.u_tile,

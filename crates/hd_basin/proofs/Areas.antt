@@ -50,10 +50,12 @@ module _ (s : Size) (t tile : ℕ) (f : Frame) (some : 1 ≤ t) (area : IsArea s
 
   module _ (p : Pos) (within : InFrame f p) where
     x_part : p.x / t ≡ tile % tiles_across s t
-    x_part = (let a = within.left in let b = within.right in let c = area.columns in let l = area.left in part-is p.x (tile % tiles_across s t) t (p.x - f.left) (omega (arith, a, b, c)) (omega (arith, a, l)))
+    x_part = (let a = within.left in let b = within.right in let c = area.columns in let l = area.left in part-is p.x (tile % tiles_across s t) t (p.x - f.left)
+        (omega (arith, a, b, c)) (omega (arith, a, l)))
 
     y_part : p.y / t ≡ tile / tiles_across s t
-    y_part = (let a = within.top in let b = within.bottom in let c = area.rows in let l = area.top in part-is p.y (tile / tiles_across s t) t (p.y - f.top) (omega (arith, a, b, c)) (omega (arith, a, l)))
+    y_part = (let a = within.top in let b = within.bottom in let c = area.rows in let l = area.top in part-is p.y (tile / tiles_across s t) t (p.y - f.top) (omega (arith, a, b, c))
+        (omega (arith, a, l)))
 
     -- and it has no other
     pub area-grid : InGrid s p
@@ -96,7 +98,8 @@ place-one f i j bi bj e =
 
 -- the position of a row and a column
 pub place-at : (f : Frame) (i j : ℕ) → j < f.columns → at_place f (i * f.columns + j) ≡ record { x = f.left + j; y = f.top + i }
-place-at f i j column = same_pos (at_place f (i * f.columns + j)) (record { x = f.left + j; y = f.top + i }) (ap (λ (k : ℕ). f.left + k) (mod-mul-add i f.columns j column)) (ap (λ (k : ℕ). f.top + k) (div-mul-add i f.columns j column))
+place-at f i j column = same_pos (at_place f (i * f.columns + j)) (record { x = f.left + j; y = f.top + i }) (ap (λ (k : ℕ). f.left + k) (mod-mul-add i f.columns j column))
+    (ap (λ (k : ℕ). f.top + k) (div-mul-add i f.columns j column))
 
 -- the place of a position, by the row and the column that it has
 pub place-of-at : (f : Frame) (k : ℕ) (p : Pos) → at_place f k ≡ p → k ≡ (p.y - f.top) * f.columns + (p.x - f.left)

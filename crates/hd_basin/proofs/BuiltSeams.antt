@@ -52,8 +52,10 @@ not_both side a b e f = (let up = (below_by-order side).transitive a b a e f in 
 ordered-same : (side : SideName) (p q : Pass) (a b w u : Rank) → IsBetween p a b w → IsBetween q a b u → below_by side p.a p.b ≡ true → below_by side q.a q.b ≡ true → (p.a ≡ q.a) × (p.b ≡ q.b)
 ordered-same side p q a b w u (inl e) (inl f) one other = (ap (λ (x : Pass). x.a) e ∙ sym (ap (λ (x : Pass). x.a) f), ap (λ (x : Pass). x.b) e ∙ sym (ap (λ (x : Pass). x.b) f))
 ordered-same side p q a b w u (inr e) (inr f) one other = (ap (λ (x : Pass). x.a) e ∙ sym (ap (λ (x : Pass). x.a) f), ap (λ (x : Pass). x.b) e ∙ sym (ap (λ (x : Pass). x.b) f))
-ordered-same side p q a b w u (inl e) (inr f) one other = absurd (not_both side a b (subst (λ (x : Pass). below_by side x.a x.b ≡ true) e one) (subst (λ (x : Pass). below_by side x.a x.b ≡ true) f other))
-ordered-same side p q a b w u (inr e) (inl f) one other = absurd (not_both side a b (subst (λ (x : Pass). below_by side x.a x.b ≡ true) f other) (subst (λ (x : Pass). below_by side x.a x.b ≡ true) e one))
+ordered-same side p q a b w u (inl e) (inr f) one other = absurd (not_both side a b (subst (λ (x : Pass). below_by side x.a x.b ≡ true) e one)
+    (subst (λ (x : Pass). below_by side x.a x.b ≡ true) f other))
+ordered-same side p q a b w u (inr e) (inl f) one other = absurd (not_both side a b (subst (λ (x : Pass). below_by side x.a x.b ≡ true) f other)
+    (subst (λ (x : Pass). below_by side x.a x.b ≡ true) e one))
 
 between-at : (p : Pass) (a b w : Rank) → IsBetween p a b w → p.at ≡ w
 between-at p a b w (inl e) = ap (λ (x : Pass). x.at) e
@@ -127,9 +129,12 @@ module _ (m : Map) (side : SideName) (t tile : ℕ) (stamps : List ℕ) (parts :
       let to : IsSinkOf m side t (rank m q) b = subst (λ (r : Rank). IsSinkOf m side t r b) near.to_rank mt.to_in in
       let c = cand.every p q a b asked near.neighbour from to apart in
       let j = joint p q c.0 is_known c.2 in
-      let higher : higher_by side (rank m p) (rank m q) ≡ u = sym (mt.higher ∙ ap (λ (x : Rank). higher_by side x mt.to) near.from_rank ∙ ap (λ (x : Rank). higher_by side (rank m p) x) near.to_rank) in
-      let one : Joint c.0 a c.2.b (higher_by side (rank m p) (rank m q)) = subst (λ (x : Rank). Joint c.0 x c.2.b (higher_by side (rank m p) (rank m q))) (sink-unique m side t (rank m p) c.2.a a c.2.from from) j in
-      let two : Joint c.0 a b (higher_by side (rank m p) (rank m q)) = subst (λ (x : Rank). Joint c.0 a x (higher_by side (rank m p) (rank m q))) (sink-unique m side t (rank m q) c.2.b b c.2.to to) one in
+      let higher : higher_by side (rank m p) (rank m q) ≡ u = sym (mt.higher ∙ ap (λ (x : Rank). higher_by side x mt.to) near.from_rank
+      ∙ ap (λ (x : Rank). higher_by side (rank m p) x) near.to_rank) in
+      let one : Joint c.0 a c.2.b (higher_by side (rank m p) (rank m q)) = subst (λ (x : Rank). Joint c.0 x c.2.b (higher_by side (rank m p) (rank m q)))
+      (sink-unique m side t (rank m p) c.2.a a c.2.from from) j in
+      let two : Joint c.0 a b (higher_by side (rank m p) (rank m q)) = subst (λ (x : Rank). Joint c.0 a x (higher_by side (rank m p) (rank m q)))
+      (sink-unique m side t (rank m q) c.2.b b c.2.to to) one in
       (c.0, c.1, subst (λ (x : Rank). Joint c.0 a b x) higher two)
 
   -- what is kept is at a pass
@@ -147,7 +152,8 @@ module _ (m : Map) (side : SideName) (t tile : ℕ) (stamps : List ℕ) (parts :
             let v = found a b u j.own j.known j.apart mt in
             let same = ordered-same side s.pass v.0.pass a b w u j.between v.2.between j.ordered v.2.ordered in
             let low = k.lowest s v.0 has v.1 (ap (λ (r : Rank). r.index) same.0, ap (λ (r : Rank). r.index) same.1) in
-            subst (λ (x : Rank). IsNotAbove (below_by side) x u) (between-at s.pass a b w j.between) (subst (λ (x : Rank). IsNotAbove (below_by side) s.pass.at x) (between-at v.0.pass a b u v.2.between) low));
+            subst (λ (x : Rank). IsNotAbove (below_by side) x u) (between-at s.pass a b w j.between)
+            (subst (λ (x : Rank). IsNotAbove (below_by side) s.pass.at x) (between-at v.0.pass a b u v.2.between) low));
       } in
       elim j.between [
         | inl e ↦ subst (λ (x : Pass). IsRightPass m side t x) (sym e) right
@@ -189,7 +195,8 @@ module _ (m : Map) (side : SideName) (t tile : ℕ) (stamps : List ℕ) (parts :
       let one = joint-of s (k.some s (Contains-get_or kept i d (omega (arith, less, below)))) in
       let other = joint-of u (k.some u (Contains-get_or kept j d below)) in (
         λ a b. k.once i j d less below (ap (λ (r : Rank). r.index) a, ap (λ (r : Rank). r.index) b),
-        λ a b. not_both side s.pass.a s.pass.b one.3.ordered (subst (λ (z : Rank). below_by side s.pass.b z ≡ true) (sym a) (subst (λ (z : Rank). below_by side z u.pass.b ≡ true) (sym b) other.3.ordered)),
+        λ a b. not_both side s.pass.a s.pass.b one.3.ordered (subst (λ (z : Rank). below_by side s.pass.b z ≡ true) (sym a)
+            (subst (λ (z : Rank). below_by side z u.pass.b ≡ true) (sym b) other.3.ordered)),
       )
 
   pub joined-built : (part : Part) → IsNoded m side t tile part → part.seams ≡ kept → IsBuilt m side t stamps parts tile part

@@ -64,7 +64,12 @@ module _ (m : Map) (side : SideName) (t tile : ℕ) (stamps : List ℕ) (parts :
       ];
       every = λ x y a b asked near_ from to apart. elim (earlier x y asked) [
         | inl was ↦ (let c = are.every x y a b was near_ from to apart in (c.0, Contains-append_left old (one.0 ∷ []) c.0 c.1, c.2))
-        | inr it ↦ (one.0, Contains-push old one.0, subst (λ (z : Pos). IsCandidate m side t tile stamps z y one.0) (sym it.0) (subst (λ (z : Pos). IsCandidate m side t tile stamps p z one.0) (sym it.1) one.2))
+        | inr it ↦ (
+          one.0,
+          Contains-push old one.0,
+          subst (λ (z : Pos). IsCandidate m side t tile stamps z y one.0) (sym it.0)
+              (subst (λ (z : Pos). IsCandidate m side t tile stamps p z one.0) (sym it.1) one.2),
+        )
       ];
     })
   ]

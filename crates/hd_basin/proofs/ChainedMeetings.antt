@@ -66,8 +66,10 @@ module _ (list : List Meeting) (x : Meeting) where
       record {
         ends = λ a h at. elim (cases_eq a x.a) [
           | inl same ↦ (
-              let e : Some (length list) ≡ h = same_Some (Some (length list)) h (sym (slice_get-set_same lasts x.a (Some (length list)) inside) ∙ ap (slice_get (set lasts x.a (Some (length list)))) (sym same) ∙ at) in
-              subst (λ (n : ℕ). IsLast (list ++ x ∷ []) a n h) count (subst (λ (b : ℕ). IsLast (list ++ x ∷ []) b (length list + 1) h) (sym same) (subst (λ (o : Option ℕ). IsLast (list ++ x ∷ []) x.a (length list + 1) o) e last-own)))
+              let e : Some (length list) ≡ h = same_Some (Some (length list)) h (sym (slice_get-set_same lasts x.a (Some (length list)) inside)
+              ∙ ap (slice_get (set lasts x.a (Some (length list)))) (sym same) ∙ at) in
+              subst (λ (n : ℕ). IsLast (list ++ x ∷ []) a n h) count (subst (λ (b : ℕ). IsLast (list ++ x ∷ []) b (length list + 1) h) (sym same)
+              (subst (λ (o : Option ℕ). IsLast (list ++ x ∷ []) x.a (length list + 1) o) e last-own)))
           | inr other ↦ (
               let was : slice_get lasts a ≡ Some h = sym (slice_get-set_other lasts x.a a (Some (length list)) other) ∙ at in
               subst (λ (n : ℕ). IsLast (list ++ x ∷ []) a n h) count (last-other a h (λ e. other (sym e)) (are.ends a h was)))
@@ -103,7 +105,12 @@ module _ (list : List Meeting) (i : ℕ) (was x : Meeting) (at : slice_get list 
 
   last-same : (a bound : ℕ) (h : Option ℕ) → IsLast list a bound h → IsLast changed a bound h
   last-same a bound None is = λ j y below read same. (let s = Stood-changed j y read in is j s.old below s.old_at (sym s.same_a ∙ same))
-  last-same a bound (Some h) is = (is.0, λ y read. (let s = Stood-changed h y read in s.same_a ∙ is.1 s.old s.old_at), λ j y below read same. (let s = Stood-changed j y read in is.2 j s.old below s.old_at (sym s.same_a ∙ same)))
+  last-same a bound (Some h) is = (
+    is.0,
+    λ y read. (let s = Stood-changed h y read in s.same_a ∙ is.1 s.old s.old_at),
+    λ j y below read same.
+        (let s = Stood-changed j y read in is.2 j s.old below s.old_at (sym s.same_a ∙ same)),
+  )
 
   pub chained-set : (lasts : List (Option ℕ)) → length changed ≡ length list → x.before ≡ was.before → AreChained lasts list → AreChained lasts changed
   chained-set lasts count before are = record {
@@ -144,7 +151,8 @@ ahead-start a b list None is = λ j x at lesser greater. is j x (slice_get_withi
 ahead-start a b list (Some h) is = (is.0, is.1, λ j x at lesser greater. is.2 j x (slice_get_within list j x at) at lesser)
 
 -- it is another one, so the one before it is ahead
-ahead-before : (a b : ℕ) (list : List Meeting) (h : ℕ) (x : Meeting) (before : Option ℕ) → IsAhead a b list (Some h) → slice_get list h ≡ Some x → x.b ≢ b → IsLast list a h before → IsAhead a b list before × (up_to before < up_to (Some h))
+ahead-before : (a b : ℕ) (list : List Meeting) (h : ℕ) (x : Meeting) (before : Option ℕ) → IsAhead a b list (Some h) → slice_get list h ≡ Some x → x.b ≢ b → IsLast list a h before
+    → IsAhead a b list before × (up_to before < up_to (Some h))
 ahead-before a b list h x None ahead at other is = (
   λ j y read lesser greater. elim (cases_eq j h) [
     | inl e ↦ other (ap (λ (z : Meeting). z.b) (same_Some x y (sym at ∙ ap (slice_get list) (sym e) ∙ read)) ∙ greater)
@@ -236,7 +244,8 @@ module _ (side : SideName) (Event : ℕ → ℕ → Rank → Type 0) (a b : ℕ)
                       new-at old i was x at mine other,
                       mine ∙ ap (λ (z : Meeting). z.a) (sym same) ∙ k.3,
                       other ∙ ap (λ (z : Meeting). z.b) (sym same) ∙ k.4,
-                      subst (λ (z : Rank). IsNotAbove (below_by side) z v) (sym is.at) (not_above-trans (below_by side) (below_by-order side) w was.at v (below-not_above (below_by side) (below_by-order side) w was.at low)
+                      subst (λ (z : Rank). IsNotAbove (below_by side) z v) (sym is.at)
+                          (not_above-trans (below_by side) (below_by-order side) w was.at v (below-not_above (below_by side) (below_by-order side) w was.at low)
                           (subst (λ (z : Meeting). IsNotAbove (below_by side) z.at v) same k.5)),
                     ))
                 | inr apart ↦ (k.0, k.1, slice_get-set_other old i k.0 x apart ∙ k.2, k.3, k.4, k.5)

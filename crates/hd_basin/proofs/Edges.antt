@@ -82,7 +82,8 @@ module _ (m : Map) (side : SideName) (whole : IsMap m) (p : Pos) (here : Present
     first v = (p.y - f.top + v) * (f.columns + 2) + (p.x - f.left)
 
     at-place : (u v k : ℕ) → u ≤ 2 → v ≤ 2 → k ≡ first v + u → IsLow m side (IsAtPlace (p.y + v) (p.x + u)) (rank_in ranks k)
-    at-place u v k narrow low e = subst (λ (n : ℕ). IsLow m side (IsAtPlace (p.y + v) (p.x + u)) (rank_in ranks n)) (let h : first v + u ≡ k = sym e in omega (arith, h)) (entry-at m side whole f ranks are p within u v narrow low)
+    at-place u v k narrow low e = subst (λ (n : ℕ). IsLow m side (IsAtPlace (p.y + v) (p.x + u)) (rank_in ranks n)) (let h : first v + u ≡ k = sym e in omega (arith, h))
+        (entry-at m side whole f ranks are p within u v narrow low)
 
     -- a row of three of which one is missing
     pub row-open : (v k : ℕ) → v ≤ 2 → k ≡ first v → lacks_one side ranks k ≡ true → IsEdge m (rank m p)
@@ -99,7 +100,8 @@ module _ (m : Map) (side : SideName) (whole : IsMap m) (p : Pos) (here : Present
     row-seen v k low e none u narrow =
         let both = or_parts (is_missing side (rank_in ranks k) || is_missing side (rank_in ranks (k + 1))) (is_missing side (rank_in ranks (k + 2))) none in
         let two = or_parts (is_missing side (rank_in ranks k)) (is_missing side (rank_in ranks (k + 1))) both.0 in
-        let at : (j : ℕ) → j ≤ 2 → is_missing side (rank_in ranks (k + j)) ≡ false → AreSeen j v = λ j few is. low-seen j v (rank_in ranks (k + j)) (at-place j v (k + j) few low (omega (arith, e))) is in
+        let at : (j : ℕ) → j ≤ 2 → is_missing side (rank_in ranks (k + j)) ≡ false
+        → AreSeen j v = λ j few is. low-seen j v (rank_in ranks (k + j)) (at-place j v (k + j) few low (omega (arith, e))) is in
         elim (cases_eq u 0) [
           | inl zero ↦ subst (λ (j : ℕ). AreSeen j v) (sym zero) (at 0 (omega arith) (subst (λ (n : ℕ). is_missing side (rank_in ranks n) ≡ false) (let h : k ≡ k + 0 = omega arith in h) two.0))
           | inr some ↦ elim (cases_eq u 1) [

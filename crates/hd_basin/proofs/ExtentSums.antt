@@ -83,14 +83,16 @@ module _ (A B Edge : Rank → Type 0) (apart : (r : Rank) → A r → B r → �
   edge_low-both None (Some b) q e one other = subst (EdgeLow (Either A B) Edge) (sym e) (least-by (EdgeMember B Edge) (EdgeMember (Either A B) Edge) (only-second one) b other)
   edge_low-both (Some a) None q e one other = subst (EdgeLow (Either A B) Edge) (sym e) (least-by (EdgeMember A Edge) (EdgeMember (Either A B) Edge) (only-first other) a one)
   edge_low-both (Some a) (Some b) None e one other = absurd e
-  edge_low-both (Some a) (Some b) (Some c) e one other = least-by (Either (EdgeMember A Edge) (EdgeMember B Edge)) (EdgeMember (Either A B) Edge) both-edges c (least-both (EdgeMember A Edge) (EdgeMember B Edge) a b c one other e)
+  edge_low-both (Some a) (Some b) (Some c) e one other = least-by (Either (EdgeMember A Edge) (EdgeMember B Edge)) (EdgeMember (Either A B) Edge) both-edges c
+      (least-both (EdgeMember A Edge) (EdgeMember B Edge) a b c one other e)
 
   edge_high-both : (o p q : Option ℤ) → IsOfBoth IsGreater o p q → EdgeHigh A Edge o → EdgeHigh B Edge p → EdgeHigh (Either A B) Edge q
   edge_high-both None None q e one other = subst (EdgeHigh (Either A B) Edge) (sym e) (no-edges one other)
   edge_high-both None (Some b) q e one other = subst (EdgeHigh (Either A B) Edge) (sym e) (greatest-by (EdgeMember B Edge) (EdgeMember (Either A B) Edge) (only-second one) b other)
   edge_high-both (Some a) None q e one other = subst (EdgeHigh (Either A B) Edge) (sym e) (greatest-by (EdgeMember A Edge) (EdgeMember (Either A B) Edge) (only-first other) a one)
   edge_high-both (Some a) (Some b) None e one other = absurd e
-  edge_high-both (Some a) (Some b) (Some c) e one other = greatest-by (Either (EdgeMember A Edge) (EdgeMember B Edge)) (EdgeMember (Either A B) Edge) both-edges c (greatest-both (EdgeMember A Edge) (EdgeMember B Edge) a b c one other e)
+  edge_high-both (Some a) (Some b) (Some c) e one other = greatest-by (Either (EdgeMember A Edge) (EdgeMember B Edge)) (EdgeMember (Either A B) Edge) both-edges c
+      (greatest-both (EdgeMember A Edge) (EdgeMember B Edge) a b c one other e)
 
   pub sums-both : (old new : Extent) (n : Node) → JoinsBasin old n new → AreSums A Edge old.points old.high old.least old.edge_low old.edge_high
       → AreSums B Edge n.points n.high n.least n.edge_low n.edge_high → AreSums (Either A B) Edge new.points new.high new.least new.edge_low new.edge_high
@@ -110,6 +112,7 @@ count-few m Member n whole points count =
     let x : Rank = get_or count.ranks i d in
     let y : Rank = get_or count.ranks j d in
     let early : i < length count.ranks = omega arith in
-    count.lists.once i j d less below (same_index m x y (points x ((count.lists.all x).0 (Contains-get_or count.ranks i d early))) (points y ((count.lists.all y).0 (Contains-get_or count.ranks j d below))) same)))
+    count.lists.once i j d less below (same_index m x y (points x ((count.lists.all x).0 (Contains-get_or count.ranks i d early)))
+    (points y ((count.lists.all y).0 (Contains-get_or count.ranks j d below))) same)))
     (λ r at. (point_limits m r whole (points r ((count.lists.all r).0 at))).index) in
     subst (λ k. k ≤ most_cells) (sym count.count_is) few

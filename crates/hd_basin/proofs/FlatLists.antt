@@ -12,10 +12,12 @@ use Rattle.hd_map.proofs.Items.{Contains-head, Contains-tail, Contains-cases, Co
 
 module _ {X Y : Type 0} (f : X → Y) where
   -- one item more is written
-  pub map-more : (ys zs new : List Y) (xs : List X) (k : ℕ) (d : X) (y : Y) → k < length xs → y ≡ f (get_or xs k d) → zs ≡ ys ++ map f (take k xs) → new ≡ zs ++ y ∷ [] → new ≡ ys ++ map f (take (k + 1) xs)
+  pub map-more : (ys zs new : List Y) (xs : List X) (k : ℕ) (d : X) (y : Y) → k < length xs → y ≡ f (get_or xs k d) → zs ≡ ys ++ map f (take k xs) → new ≡ zs ++ y ∷ []
+      → new ≡ ys ++ map f (take (k + 1) xs)
   map-more ys zs new xs k d y inside item before after =
       let whole : map f (take (k + 1) xs) ≡ map f (take k xs) ++ f (get_or xs k d) ∷ [] = ap (map f) (take_more xs k d inside) ∙ map-append f (take k xs) (get_or xs k d ∷ []) in
-      after ∙ ap (λ (vs : List Y). vs ++ y ∷ []) before ∙ ap (λ (v : Y). (ys ++ map f (take k xs)) ++ v ∷ []) item ∙ append_assoc ys (map f (take k xs)) (f (get_or xs k d) ∷ []) ∙ ap (λ (vs : List Y). ys ++ vs) (sym whole)
+      after ∙ ap (λ (vs : List Y). vs ++ y ∷ []) before ∙ ap (λ (v : Y). (ys ++ map f (take k xs)) ++ v ∷ []) item ∙ append_assoc ys (map f (take k xs)) (f (get_or xs k d) ∷ [])
+      ∙ ap (λ (vs : List Y). ys ++ vs) (sym whole)
 
   -- all of them are written
   pub map-whole : (ys : List Y) (xs : List X) (k : ℕ) → length xs ≤ k → ys ++ map f (take k xs) ≡ ys ++ map f xs
@@ -28,9 +30,11 @@ map-twice f g (x ∷ xs) = ap (λ zs. f (g x) ∷ zs) (map-twice f g xs)
 
 module _ {X Y : Type 0} (f : X → List Y) where
   -- one list more is written
-  pub flat-more : (ys zs new : List Y) (xs : List X) (k : ℕ) (d : X) (piece : List Y) → k < length xs → piece ≡ f (get_or xs k d) → zs ≡ ys ++ flat_map f (take k xs) → new ≡ zs ++ piece → new ≡ ys ++ flat_map f (take (k + 1) xs)
+  pub flat-more : (ys zs new : List Y) (xs : List X) (k : ℕ) (d : X) (piece : List Y) → k < length xs → piece ≡ f (get_or xs k d) → zs ≡ ys ++ flat_map f (take k xs)
+      → new ≡ zs ++ piece → new ≡ ys ++ flat_map f (take (k + 1) xs)
   flat-more ys zs new xs k d piece inside item before after =
-      after ∙ ap (λ (vs : List Y). vs ++ piece) before ∙ ap (λ (vs : List Y). (ys ++ flat_map f (take k xs)) ++ vs) item ∙ flat_map_more f ys (take k xs) (get_or xs k d) ∙ ap (λ (vs : List X). ys ++ flat_map f vs) (sym (take_more xs k d inside))
+      after ∙ ap (λ (vs : List Y). vs ++ piece) before ∙ ap (λ (vs : List Y). (ys ++ flat_map f (take k xs)) ++ vs) item ∙ flat_map_more f ys (take k xs) (get_or xs k d)
+      ∙ ap (λ (vs : List X). ys ++ flat_map f vs) (sym (take_more xs k d inside))
 
   pub flat-whole : (ys : List Y) (xs : List X) (k : ℕ) → length xs ≤ k → ys ++ flat_map f (take k xs) ≡ ys ++ flat_map f xs
   flat-whole ys xs k past = ap (λ (zs : List X). ys ++ flat_map f zs) (take_all k xs past)
@@ -86,7 +90,8 @@ Contains-at {X} (y ∷ ys) x h = elim (Contains-cases y x ys h) [
 ]
 
 -- the pairs of a mapped list
-pub AllPairs-map : {X Y : Type 0} (f : X → Y) (Q : X → X → Type 0) (R : Y → Y → Type 0) (xs : List X) → ((x y : X) → Contains xs x → Contains xs y → Q x y → R (f x) (f y)) → AllPairs Q xs → AllPairs R (map f xs)
+pub AllPairs-map : {X Y : Type 0} (f : X → Y) (Q : X → X → Type 0) (R : Y → Y → Type 0) (xs : List X) → ((x y : X) → Contains xs x → Contains xs y → Q x y → R (f x) (f y))
+    → AllPairs Q xs → AllPairs R (map f xs)
 AllPairs-map f Q R [] h pairs = λ i j d less below. absurd (omega arith)
 AllPairs-map f Q R (x ∷ xs) h pairs = AllPairs-cons R (f x) (map f xs)
     (λ k d inside. (

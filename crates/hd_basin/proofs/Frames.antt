@@ -70,7 +70,8 @@ pub frame_holds : (s : Size) (t tile : ℕ) (f : Frame) → 1 ≤ t →
 frame_holds s t tile f some fit_x from_x after_x fit_y from_y after_y q inside round =
     let below = tiles_along-part round.from.x s.points t some round.in_grid.column in
     let parts = tile_parts (round.from.y / t) (round.from.x / t) (tiles_across s t) tile below round.in_tile in
-    let x = in_stretch s.points t (tile % tiles_across s t) f.left f.columns round.from.x q.x some (record { fits = fit_x; begins = from_x; after = after_x }) (sym parts.1) round.columns inside.column in
+    let x = in_stretch s.points t (tile % tiles_across s t) f.left f.columns round.from.x q.x some (record { fits = fit_x; begins = from_x; after = after_x })
+    (sym parts.1) round.columns inside.column in
     let y = in_stretch s.profiles t (tile / tiles_across s t) f.top f.rows round.from.y q.y some (record { fits = fit_y; begins = from_y; after = after_y }) (sym parts.0) round.rows inside.profile in
     record { left = x.0; right = x.1; top = y.0; bottom = y.1 }
 
@@ -81,12 +82,25 @@ record IsPlaced (limit t part q : ℕ) : Type 0 where
   in_part : near / t ≡ part
   is_near : IsNear near q
 
-from_stretch : (limit t part from count q : ℕ) → 1 ≤ t → part * t < limit → from ≡ part * t - 1 → from + count ≤ limit → from + count ≤ part * t + t + 1 → from ≤ q → q < from + count → IsPlaced limit t part q
+from_stretch : (limit t part from count q : ℕ) → 1 ≤ t → part * t < limit → from ≡ part * t - 1 → from + count ≤ limit → from + count ≤ part * t + t + 1 → from ≤ q
+    → q < from + count → IsPlaced limit t part q
 from_stretch limit t part from count q some begins starts fits ends low high = elim (cases_lt q (part * t)) [
   | inl early ↦ record { near = part * t; below = begins; in_part = part-is (part * t) part t 0 (omega arith) (omega arith); is_near = (omega (arith, starts, low), omega (arith, early)) }
   | inr here ↦ elim (cases_lt q (part * t + t)) [
-    | inl inside ↦ record { near = q; below = omega (arith, high, fits); in_part = part-is q part t (q - part * t) (omega (arith, inside, here)) (omega (arith, here)); is_near = (omega arith, omega arith) }
-    | inr late ↦ record { near = part * t + t - 1; below = omega (arith, high, fits, late, some); in_part = part-is (part * t + t - 1) part t (t - 1) (omega arith) (omega (arith, some)); is_near = (omega (arith, late), omega (arith, high, ends)) }
+    | inl inside ↦ record {
+      near = q;
+      below = omega (arith, high, fits);
+      in_part = part-is q part t (q - part * t) (omega (arith, inside, here)) (omega
+          (arith, here));
+      is_near = (omega arith, omega arith);
+    }
+    | inr late ↦ record {
+      near = part * t + t - 1;
+      below = omega (arith, high, fits, late, some);
+      in_part = part-is (part * t
+          + t - 1) part t (t - 1) (omega arith) (omega (arith, some));
+      is_near = (omega (arith, late), omega (arith, high, ends));
+    }
   ]
 ]
 
@@ -143,7 +157,11 @@ seen-outside f heights p h = rw (is_in-false f p h)
 -- the steps of a part lie in it
 pub step-in_frame : (f : Frame) (k : ℕ) → k < f.columns * f.rows → InFrame f (at_step f k)
 step-in_frame f k below =
-    let wide : 1 ≤ f.columns = elim (cases_lt 0 f.columns) [ inl some ↦ omega (arith, some) | inr none ↦ absurd (let e : f.columns ≡ 0 = omega (arith, none) in let z : f.columns * f.rows ≡ 0 = ap (λ (n : ℕ). n * f.rows) e ∙ omega arith in omega (arith, z, below)) ] in
+    let wide : 1 ≤ f.columns = elim (cases_lt 0 f.columns) [
+      | inl some ↦ omega (arith, some)
+      | inr none ↦ absurd
+          (let e : f.columns ≡ 0 = omega (arith, none) in let z : f.columns * f.rows ≡ 0 = ap (λ (n : ℕ). n * f.rows) e ∙ omega arith in omega (arith, z, below))
+    ] in
     record {
       left = omega arith;
       right = omega (arith, wide);
@@ -192,7 +210,8 @@ in_limits : (t : DataType) (h : ℤ) → least_height t ≤ℤ h → h ≤ℤ gr
 in_limits t h low high = (let limits = type_limits t in (omega (arith, ints, limits, low), omega (arith, ints, limits, high)))
 
 -- the heights that were seen are
-in_range : (m : Map) (f : Frame) (heights : List (Option ℤ)) → IsMap m → FitsGrid m.size f → AreFilled m f (f.columns * f.rows) heights → (k : ℕ) (h : ℤ) → slice_index_or heights k None ≡ Some h → (least_height any_type ≤ℤ h) × (h ≤ℤ greatest_height any_type)
+in_range : (m : Map) (f : Frame) (heights : List (Option ℤ)) → IsMap m → FitsGrid m.size f → AreFilled m f (f.columns * f.rows) heights → (k : ℕ) (h : ℤ)
+    → slice_index_or heights k None ≡ Some h → (least_height any_type ≤ℤ h) × (h ≤ℤ greatest_height any_type)
 in_range m f heights map fits filled k h e = elim (cases_lt k (f.columns * f.rows)) [
   | inl less ↦ (
       let at : Pos = at_step f k in

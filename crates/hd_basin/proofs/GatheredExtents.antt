@@ -42,7 +42,8 @@ nexts-point m side p r (q ∷ qs) h = Near-from m p q h.0.lower.near
 
 module _ (m : Map) (side : SideName) (t : ℕ) where
   -- the basins of some nodes and of one more, in the region of that one's pit
-  basins-more : (nodes : List Node) (n : Node) (pit : Rank) → IsRoot m side n.low pit → (p : Rank) → Either (InBasins m side t nodes pit) (λ x. IsSinkOf m side t x n.low) p ↔ InBasins m side t (nodes ++ n ∷ []) pit p
+  basins-more : (nodes : List Node) (n : Node) (pit : Rank) → IsRoot m side n.low pit → (p : Rank) → Either (InBasins m side t nodes pit) (λ x. IsSinkOf m side t x n.low) p
+      ↔ InBasins m side t (nodes ++ n ∷ []) pit p
   basins-more nodes n pit root p = (
     λ h. elim h [
       | inl old ↦ record { node = old.node; among = Contains-append_left nodes (n ∷ []) old.node old.among; root = old.root; sink = old.sink }

@@ -1,5 +1,6 @@
 -- The nodes of a tile gather one more point.
-use Rattle.std.proofs.Common.{◌≡◌, ◌≢◌, ◌<◌, ◌≤◌, ◌+◌, ◌*◌, ℕ, ℤ, ◌⊎◌, inl, inr, Bool, true, false, List, [], ◌∷◌, ◌++◌, length, get_or, set, Option, Some, None, slice_get, refl, sym, ◌∙◌, ap, subst, arith}
+use Rattle.std.proofs.Common.{◌≡◌, ◌≢◌, ◌<◌, ◌≤◌, ◌+◌, ◌*◌, ℕ, ℤ, ◌⊎◌, inl, inr, Bool, true, false, List, [], ◌∷◌, ◌++◌, length, get_or, set, Option}
+use Rattle.std.proofs.Common.{Some, None, slice_get, refl, sym, ◌∙◌, ap, subst, arith}
 use Rattle.std.specs.Prelude.{◌↔◌, MatchOption, if◌then◌else◌, slice_index_or}
 use Rattle.std.proofs.Math.ListN.{length-set}
 use Rattle.std.proofs.lemmas.Bool.{cases_lt, cases_eq}
@@ -30,7 +31,8 @@ use Rattle.hd_basin.proofs.Sums.{More, sums-more, count-one, greatest-one, least
 use Rattle.hd_basin.proofs.SinkLaws.{sink-unique, sink-is_sink, sink-tile}
 
 -- nothing is gathered from no points
-pub gathered-none : (m : Map) (side : SideName) (t tile : ℕ) (f : Frame) (numbers : List ℕ) → length numbers ≡ f.columns * f.rows → ((j i : ℕ) → slice_get numbers j ≡ Some i → i ≡ no_node) → IsGathered m side t tile f 0 [] numbers []
+pub gathered-none : (m : Map) (side : SideName) (t tile : ℕ) (f : Frame) (numbers : List ℕ) → length numbers ≡ f.columns * f.rows
+    → ((j i : ℕ) → slice_get numbers j ≡ Some i → i ≡ no_node) → IsGathered m side t tile f 0 [] numbers []
 gathered-none m side t tile f numbers count free = record {
   numbers_count = count;
   labels_count = refl;
@@ -121,7 +123,8 @@ module _ (m : Map) (side : SideName) (t tile : ℕ) (f : Frame) (k : ℕ) (some 
     in_tile = g.in_tile;
     tile_is = g.tile_is;
     flows = g.flows;
-    sums = sums-same (Gathers m side t f k n.low) (Gathers m side t f (k + 1) n.low) (IsEdge m) (IsEdge m) (same-other n.low other) (edges-same (Gathers m side t f k n.low)) n.points n.high n.least n.edge_low n.edge_high g.sums;
+    sums = sums-same (Gathers m side t f k n.low) (Gathers m side t f (k + 1) n.low) (IsEdge m) (IsEdge m) (same-other n.low other)
+        (edges-same (Gathers m side t f k n.low)) n.points n.high n.least n.edge_low n.edge_high g.sums;
     few = omega (arith, low);
   })
 
@@ -146,7 +149,8 @@ module _ (m : Map) (side : SideName) (t tile : ℕ) (f : Frame) (k : ℕ) (some 
           let count = g.labels_count in
           let same : k ≡ j = omega (arith, late, under) in
           let end : length ls ≡ j = omega (arith, count, same) in
-          subst (λ (i : ℕ). IsNamed m side t ns' (at_place f i) (slice_index_or (ls ++ label ∷ []) j no_node)) same (subst (λ (l : ℕ). IsNamed m side t ns' here l) (sym (get_or_push ls label no_node j end)) new))
+          subst (λ (i : ℕ). IsNamed m side t ns' (at_place f i) (slice_index_or (ls ++ label ∷ []) j no_node)) same
+          (subst (λ (l : ℕ). IsNamed m side t ns' here l) (sym (get_or_push ls label no_node j end)) new))
     ]
 
     labels-count : (label : ℕ) → length (ls ++ label ∷ []) ≡ k + 1
@@ -241,8 +245,10 @@ module _ (m : Map) (side : SideName) (t tile : ℕ) (f : Frame) (k : ℕ) (some 
               sink = subst (IsSink m side t) (sym same_low) old.sink;
               in_tile = ap (tile_at m.size t) same_low ∙ old.in_tile;
               tile_is = a.adds.tile ∙ old.tile_is;
-              flows = subst (λ (o : Option Pos). MatchOption o (IsPit m side a.new.low) (FlowsTo m side a.new.low)) (sym a.adds.flows) (subst (λ (s : Rank). MatchOption a.old.flows (IsPit m side s) (FlowsTo m side s)) (sym same_low) old.flows);
-              sums = sums-same (More (Gathers m side t f k a.new.low) (IsEdge m) r (λ taken. not_taken present taken.0)) (Gathers m side t f (k + 1) a.new.low) (IsEdge m) (IsEdge m) (more-own a.new.low present member) (λ x x_in. (λ e. e, λ e. e))
+              flows = subst (λ (o : Option Pos). MatchOption o (IsPit m side a.new.low) (FlowsTo m side a.new.low)) (sym a.adds.flows)
+                  (subst (λ (s : Rank). MatchOption a.old.flows (IsPit m side s) (FlowsTo m side s)) (sym same_low) old.flows);
+              sums = sums-same (More (Gathers m side t f k a.new.low) (IsEdge m) r (λ taken. not_taken present taken.0)) (Gathers m side t f (k + 1) a.new.low) (IsEdge m)
+                  (IsEdge m) (more-own a.new.low present member) (λ x x_in. (λ e. e, λ e. e))
                   a.new.points a.new.high a.new.least a.new.edge_low a.new.edge_high more;
               few = omega (arith, low, count);
             }
@@ -265,7 +271,8 @@ module _ (m : Map) (side : SideName) (t tile : ℕ) (f : Frame) (k : ℕ) (some 
           homes = λ i n at. elim (cases_eq i label) [
             | inl e ↦ (
                 let same : n ≡ a.new = same_Some n a.new (sym at ∙ ap (slice_get ns') e ∙ new_at) in
-                ap (λ (xs : List ℕ). slice_get xs (home_of m t n.low)) a.numbers_are ∙ ap (λ (x : Node). slice_get numbers (home_of m t x.low)) same ∙ ap (λ (r : Rank). slice_get numbers (home_of m t r)) same_low ∙ g.homes label a.old a.at ∙ ap (λ (j : ℕ). Some j) (sym e))
+                ap (λ (xs : List ℕ). slice_get xs (home_of m t n.low)) a.numbers_are ∙ ap (λ (x : Node). slice_get numbers (home_of m t x.low)) same
+                ∙ ap (λ (r : Rank). slice_get numbers (home_of m t r)) same_low ∙ g.homes label a.old a.at ∙ ap (λ (j : ℕ). Some j) (sym e))
             | inr other ↦ ap (λ (xs : List ℕ). slice_get xs (home_of m t n.low)) a.numbers_are ∙ g.homes i n (sym (away i other) ∙ at)
           ];
           known = λ j i at taken. (
@@ -311,7 +318,8 @@ module _ (m : Map) (side : SideName) (t tile : ℕ) (f : Frame) (k : ℕ) (some 
             let low = a.low in
             let count = a.points in
             let one : AreSums (λ x. x ≡ r) (IsEdge m) 1 r.height r.height a.node.edge_low a.node.edge_high =
-            (let both = sums-one m r a.edge a.node.edge_low a.tells a.edge_low in subst (λ (o : Option ℤ). AreSums (λ x. x ≡ r) (IsEdge m) 1 r.height r.height a.node.edge_low o) (a.edge_low ∙ sym a.edge_high) both) in
+            (let both = sums-one m r a.edge a.node.edge_low a.tells a.edge_low in subst (λ (o : Option ℤ). AreSums (λ x. x ≡ r) (IsEdge m) 1 r.height r.height a.node.edge_low o)
+            (a.edge_low ∙ sym a.edge_high) both) in
             let sized : AreSums (λ x. x ≡ r) (IsEdge m) a.node.points a.node.high a.node.least a.node.edge_low a.node.edge_high = rw (a.points, a.high, a.least) one in
             let member : IsSinkOf m side t r a.node.low = subst (λ (s : Rank). IsSinkOf m side t r s) (sym low) of in
             record {

@@ -60,7 +60,8 @@ module _ (side : SideName) (all : List Seam) (table next : ℕ × ℕ → Option
     | true ↦ λ e. record {
       one_of = inl refl;
       itself = not_above-refl (below_by side) (below_by-order side) s.pass.at;
-      before = λ k same. subst (λ (x : Seam). IsNotAbove (below_by side) s.pass.at x.pass.at) (same_Some known k same) (below-not_above (below_by side) (below_by-order side) s.pass.at known.pass.at e);
+      before = λ k same. subst (λ (x : Seam). IsNotAbove (below_by side) s.pass.at x.pass.at) (same_Some known k same)
+          (below-not_above (below_by side) (below_by-order side) s.pass.at known.pass.at e);
     }
     | false ↦ λ e. record {
       one_of = inr refl;
@@ -114,11 +115,13 @@ module _ (side : SideName) (all : List Seam) (table next : ℕ × ℕ → Option
   }
 
 -- an update notes the seam
-pub lowest-notes : (side : SideName) (all : List Seam) (old new : BTreeMap (ℕ × ℕ) Seam) (s : Seam) → HasLowest side all (get pair_cmp old) → NotesLower side (get pair_cmp old) (get pair_cmp new) s → HasLowest side (all ++ s ∷ []) (get pair_cmp new)
+pub lowest-notes : (side : SideName) (all : List Seam) (old new : BTreeMap (ℕ × ℕ) Seam) (s : Seam) → HasLowest side all (get pair_cmp old)
+    → NotesLower side (get pair_cmp old) (get pair_cmp new) s → HasLowest side (all ++ s ∷ []) (get pair_cmp new)
 lowest-notes side all old new s has notes = lowest-more side all (get pair_cmp old) (get pair_cmp new) s has notes.here notes.others
 
 -- so a covered one does not matter
-pub lowest-covered : (side : SideName) (all : List Seam) (table next : ℕ × ℕ → Option Seam) (known s : Seam) → HasLowest side all table → Contains all known → key_of known ≡ key_of s → IsNotAbove (below_by side) known.pass.at s.pass.at
+pub lowest-covered : (side : SideName) (all : List Seam) (table next : ℕ × ℕ → Option Seam) (known s : Seam) → HasLowest side all table → Contains all known
+    → key_of known ≡ key_of s → IsNotAbove (below_by side) known.pass.at s.pass.at
     → ((k : ℕ × ℕ) → next k ≡ table k) → HasLowest side (all ++ s ∷ []) next
 lowest-covered side all table next known s has there key low same = record {
   found = λ k x at. (let f = has.found k x (sym (same k) ∙ at) in (Contains-append_left all (s ∷ []) x f.0, f.1));
@@ -154,7 +157,8 @@ low-old : (side : SideName) (known : Option Seam) (s : Seam) → is_lower side k
 low-old side (Some known) s e = rw e
 low-old side None s e = absurd cc
 
-pub notes-new : (side : SideName) (old new : BTreeMap (ℕ × ℕ) Seam) (s : Seam) → is_lower side (get pair_cmp old (key_of s)) s ≡ true → Updates pair_cmp old new (key_of s) (Some s) → NotesLower side (get pair_cmp old) (get pair_cmp new) s
+pub notes-new : (side : SideName) (old new : BTreeMap (ℕ × ℕ) Seam) (s : Seam) → is_lower side (get pair_cmp old (key_of s)) s ≡ true → Updates pair_cmp old new (key_of s) (Some s)
+    → NotesLower side (get pair_cmp old) (get pair_cmp new) s
 notes-new side old new s e u = record {
   here = u.1 ∙ ap (λ (x : Seam). Some x) (sym (low-new side (get pair_cmp old (key_of s)) s e));
   others = λ k other. u.2 k (key_apart (key_of s) k other);
@@ -173,11 +177,13 @@ keys-differ [] sorted = λ i j d less below. absurd (omega arith)
 keys-differ (e ∷ es) sorted = AllPairs-cons (λ (e f : (ℕ × ℕ) × Seam). e.0 ≡ f.0 → ⊥) e es
     (λ k d inside. key-once e.0 (get_or es k d).0 (
     let head = All-from_recursion (λ (y : ℕ × ℕ). pair_cmp e.0 y ≡ Less) (map (λ (f : (ℕ × ℕ) × Seam). f.0) es) (sorted_head pair_cmp e.0 (map (λ (f : (ℕ × ℕ) × Seam). f.0) es) sorted) in
-    All-contains (λ (y : ℕ × ℕ). pair_cmp e.0 y ≡ Less) (map (λ (f : (ℕ × ℕ) × Seam). f.0) es) (get_or es k d).0 head (map-Contains (λ (f : (ℕ × ℕ) × Seam). f.0) es (get_or es k d) (Contains-get_or es k d inside))))
+    All-contains (λ (y : ℕ × ℕ). pair_cmp e.0 y ≡ Less) (map (λ (f : (ℕ × ℕ) × Seam). f.0) es) (get_or es k d).0 head
+    (map-Contains (λ (f : (ℕ × ℕ) × Seam). f.0) es (get_or es k d) (Contains-get_or es k d inside))))
     (keys-differ es (sorted_tail pair_cmp e.0 (map (λ (f : (ℕ × ℕ) × Seam). f.0) es) sorted))
 
 -- the values of such a table are the lowest seams
-pub lowest-kept : (side : SideName) (all : List Seam) (table : BTreeMap (ℕ × ℕ) Seam) → IsOrdered pair_cmp table → HasLowest side all (get pair_cmp table) → (kept : List Seam) → kept ≡ map (λ (e : (ℕ × ℕ) × Seam). e.1) table.entries → KeepLowest side all kept
+pub lowest-kept : (side : SideName) (all : List Seam) (table : BTreeMap (ℕ × ℕ) Seam) → IsOrdered pair_cmp table → HasLowest side all (get pair_cmp table) → (kept : List Seam)
+    → kept ≡ map (λ (e : (ℕ × ℕ) × Seam). e.1) table.entries → KeepLowest side all kept
 lowest-kept side all table ordered has kept are = record {
   some = λ s at. (let e = read s at in (has.found e.0 s e.1).0);
   lowest = λ s u at within same. (
@@ -187,8 +193,11 @@ lowest-kept side all table ordered has kept are = record {
   each = λ u within. (
       let s = has.each u within in
       let f = has.found (key_of u) s.0 s.1 in
-      let entry = (btree_map_get_iff pair-total pair-exact table ordered (key_of u) s.0).0 s.1 in
-      (s.0, subst (λ (xs : List Seam). Contains xs s.0) (sym are) (map-Contains (λ (e : (ℕ × ℕ) × Seam). e.1) table.entries (key_of u, s.0) entry), (ap (λ (x : ℕ × ℕ). x.0) f.1, ap (λ (x : ℕ × ℕ). x.1) f.1)));
+      let entry = (btree_map_get_iff pair-total pair-exact table ordered (key_of u) s.0).0 s.1 in (
+        s.0,
+        subst (λ (xs : List Seam). Contains xs s.0) (sym are) (map-Contains (λ (e : (ℕ × ℕ) × Seam). e.1) table.entries (key_of u, s.0) entry),
+        (ap (λ (x : ℕ × ℕ). x.0) f.1, ap (λ (x : ℕ × ℕ). x.1) f.1),
+      ));
   once = subst (λ (xs : List Seam). AllPairs (λ (s u : Seam). HaveSameEnds s u → ⊥) xs) (sym are)
       (AllPairs-map (λ (e : (ℕ × ℕ) × Seam). e.1) (λ (e f : (ℕ × ℕ) × Seam). e.0 ≡ f.0 → ⊥) (λ (s u : Seam). HaveSameEnds s u → ⊥) table.entries
       (λ e f at there apart same. apart (sym (key_is e at) ∙ ap (λ (x : ℕ). (x, (e.1).pass.b.index)) same.0 ∙ ap (λ (y : ℕ). ((f.1).pass.a.index, y)) same.1 ∙ key_is f there))

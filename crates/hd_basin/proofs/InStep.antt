@@ -67,7 +67,15 @@ near-sym m a b near = record { from = near.to; to = near.from; neighbour = neigh
 
 -- two basins meet both ways
 pub meeting-sym : (m : Map) (side : SideName) (t : ℕ) (a b w : Rank) → IsBasinMeeting m side t a b w → IsBasinMeeting m side t b a w
-meeting-sym m side t a b w meet = record { from = meet.to; to = meet.from; near = near-sym m meet.from meet.to meet.near; from_in = meet.to_in; to_in = meet.from_in; higher = meet.higher ∙ higher-sym side meet.from meet.to }
+meeting-sym m side t a b w meet = record {
+  from = meet.to;
+  to = meet.from;
+  near = near-sym m meet.from meet.to meet.near;
+  from_in = meet.to_in;
+  to_in = meet.from_in;
+  higher =
+      meet.higher ∙ higher-sym side meet.from meet.to;
+}
 
 -- and have their pass both ways
 pub pass-sym : (m : Map) (side : SideName) (t : ℕ) (a b w : Rank) → IsBasinPass m side t a b w → IsBasinPass m side t b a w

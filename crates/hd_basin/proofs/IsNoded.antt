@@ -126,7 +126,8 @@ module _ (m : Map) (side : SideName) (t tile : ℕ) (f : Frame) (some : 1 ≤ t)
         | inr absent ↦ absurd (there (name.none absent))
       ]
 
-  pub gathered-noded : (part : Part) → part.nodes ≡ ns → part.labels.items ≡ ls → HasPasses m side t tile (map (pass_named ns) part.joins) → JoinBelow (length ns) part.joins → IsNoded m side t tile part
+  pub gathered-noded : (part : Part) → part.nodes ≡ ns → part.labels.items ≡ ls → HasPasses m side t tile (map (pass_named ns) part.joins) → JoinBelow (length ns) part.joins
+      → IsNoded m side t tile part
   gathered-noded part nodes labels passes joined = record {
     names = record {
       labels = λ label has there. subst (λ (xs : List Node). label < length xs) (sym nodes) (label-below label (subst (λ (xs : List ℕ). Contains xs label) labels has) there);
@@ -164,12 +165,14 @@ noded-kept m n side t tile k part h =
               ap (λ (z : Size). tile_at z t p.a) k.size ∙ u.1,
               ap (λ (z : Size). tile_at z t p.b) k.size ∙ u.2,
             ));
-        inside_all = λ a b w own other apart mt. h.passes.inside_all a b w (ap (λ (z : Size). tile_at z t a) (sym k.size) ∙ own) (ap (λ (z : Size). tile_at z t b) (sym k.size) ∙ other) apart (meeting_kept m n side t tile tile k k a b w own other mt);
+        inside_all = λ a b w own other apart mt. h.passes.inside_all a b w (ap (λ (z : Size). tile_at z t a) (sym k.size) ∙ own) (ap (λ (z : Size). tile_at z t b) (sym k.size)
+            ∙ other) apart (meeting_kept m n side t tile tile k k a b w own other mt);
         once = h.passes.once;
       };
       sinks = λ s at sink. h.sinks s (ap (λ (z : Size). tile_at z t s) (sym k.size) ∙ at) (sink_kept m n side t tile k s at sink);
       labels = λ p inside at.
           subst (λ (z : Size). IsLabel m side t p (low_of (node_at (Some part) (place_in_tile z t p)))) (sym k.size)
-          (label_kept n m side t tile back p (subst (λ (z : Size). InGrid z p) k.size inside) (ap (λ (z : Size). tile_of z t p) (sym k.size) ∙ at) (low_of (node_at (Some part) (place_in_tile n.size t p)))
+          (label_kept n m side t tile back p (subst (λ (z : Size). InGrid z p) k.size inside) (ap (λ (z : Size). tile_of z t p) (sym k.size) ∙ at)
+          (low_of (node_at (Some part) (place_in_tile n.size t p)))
           (h.labels p (subst (λ (z : Size). InGrid z p) k.size inside) (ap (λ (z : Size). tile_of z t p) (sym k.size) ∙ at)));
     }

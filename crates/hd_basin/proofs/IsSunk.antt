@@ -23,7 +23,8 @@ pub sunk-absent : (m : Map) (side : SideName) (t : ℕ) (f : Frame) → f.column
 sunk-absent m side t f few k place is none here = (let below = is.inside here in omega (arith, below, none, few))
 
 -- and one where there is a point
-pub sunk-here : (m : Map) (side : SideName) (t tile : ℕ) (f : Frame) → 1 ≤ t → IsArea m.size t tile f → (k : ℕ) → k < f.columns * f.rows → (place : ℕ) → IsSunk m side t f k place → (place ≡ no_node → ⊥) → Present m (at_place f k)
+pub sunk-here : (m : Map) (side : SideName) (t tile : ℕ) (f : Frame) → 1 ≤ t → IsArea m.size t tile f → (k : ℕ) → k < f.columns * f.rows → (place : ℕ) → IsSunk m side t f k place
+    → (place ≡ no_node → ⊥) → Present m (at_place f k)
 sunk-here m side t tile f some area k below place is there = elim (present_or_not m (at_place f k) (area-grid m.size t tile f some area (at_place f k) (step-in_frame f k below))) [
   | inl here ↦ here
   | inr absent ↦ absurd (there (is.none absent))

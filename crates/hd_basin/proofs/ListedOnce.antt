@@ -28,10 +28,11 @@ live-part (Some other) stamp e = (other, refl, live other.seen e)
     live (Some seen) e = (let same : seen ≡ stamp = grind (arith, nat_tests) in ap (λ (k : ℕ). Some k) same)
 
 pub live-pass : (side : SideName) (parts : List Part) (s : Seam) (p : Pass) → Contains (pass_of side parts s) p → (p ≡ in_order side s.pass) × (was_seen_with (slice_get parts s.with) s.stamp ≡ true)
-live-pass side parts s p = elim (was_seen_with (slice_get parts s.with) s.stamp) as (λ v. was_seen_with (slice_get parts s.with) s.stamp ≡ v → Contains (cond v (in_order side s.pass ∷ []) []) p → (p ≡ in_order side s.pass) × (was_seen_with (slice_get parts s.with) s.stamp ≡ true)) [
-  | true ↦ λ e h. (elim (Contains-cases (in_order side s.pass) p [] h) [ inl same ↦ same | inr none ↦ absurd (Contains-none p none) ], e)
-  | false ↦ λ e h. absurd (Contains-none p h)
-] refl
+live-pass side parts s p = elim (was_seen_with (slice_get parts s.with) s.stamp) as (λ v. was_seen_with (slice_get parts s.with) s.stamp ≡ v
+    → Contains (cond v (in_order side s.pass ∷ []) []) p → (p ≡ in_order side s.pass) × (was_seen_with (slice_get parts s.with) s.stamp ≡ true)) [
+      | true ↦ λ e h. (elim (Contains-cases (in_order side s.pass) p [] h) [ inl same ↦ same | inr none ↦ absurd (Contains-none p none) ], e)
+      | false ↦ λ e h. absurd (Contains-none p h)
+    ] refl
 
 others-sym : (p q : Pass) → JoinOthers p q → JoinOthers q p
 others-sym p q h = (λ a b. h.0 (sym a) (sym b), λ a b. h.1 (sym b) (sym a))
@@ -87,7 +88,8 @@ module _ (side : SideName) (pool : Pool) (sound : IsSound pool) where
         )
 
     -- seams of two tiles, neither of them void
-    across-across : (s u : Seam) → Contains p.seams s → Contains q.seams u → was_seen_with (slice_get pool.parts s.with) s.stamp ≡ true → was_seen_with (slice_get pool.parts u.with) u.stamp ≡ true → JoinOthers s.pass u.pass
+    across-across : (s u : Seam) → Contains p.seams s → Contains q.seams u → was_seen_with (slice_get pool.parts s.with) s.stamp ≡ true
+        → was_seen_with (slice_get pool.parts u.with) u.stamp ≡ true → JoinOthers s.pass u.pass
     across-across s u has other live alive =
         let h = sound.across j p s at has in
         let g = sound.across k q u there other in
@@ -100,9 +102,11 @@ module _ (side : SideName) (pool : Pool) (sound : IsSound pool) where
 
   -- what is listed of a tile: a pass inside it, or a seam that is not void
   abbrev IsListed : Part → Pass → Type 0
-  IsListed part x = ((p : Pass) × Contains (inner_passes part) p × (in_order side p ≡ x)) ⊎ ((s : Seam) × Contains part.seams s × (in_order side s.pass ≡ x) × (was_seen_with (slice_get pool.parts s.with) s.stamp ≡ true))
+  IsListed part x = ((p : Pass) × Contains (inner_passes part) p × (in_order side p ≡ x))
+      ⊎ ((s : Seam) × Contains part.seams s × (in_order side s.pass ≡ x) × (was_seen_with (slice_get pool.parts s.with) s.stamp ≡ true))
 
-  of-seams : (part : Part) (x : Pass) → Contains (flat_map (pass_of side pool.parts) part.seams) x → (k : ℕ) × (s : Seam) × (slice_get part.seams k ≡ Some s) × (in_order side s.pass ≡ x) × (was_seen_with (slice_get pool.parts s.with) s.stamp ≡ true)
+  of-seams : (part : Part) (x : Pass) → Contains (flat_map (pass_of side pool.parts) part.seams) x → (k : ℕ) × (s : Seam) × (slice_get part.seams k ≡ Some s)
+      × (in_order side s.pass ≡ x) × (was_seen_with (slice_get pool.parts s.with) s.stamp ≡ true)
   of-seams part x h =
       let f = Contains-flat (pass_of side pool.parts) part.seams x h in
       let l = live-pass side pool.parts f.1 x f.3 in

@@ -167,7 +167,8 @@ module _ (m : Map) (side : SideName) (whole : IsMap m) (p : Pos) (y : ℕ) (near
   row-level own = row-three (λ q profile. beside-profile m.adjacency p q (omega (arith, profile, own)))
 
 -- the lowest of a point and its neighbours, from the lowest of three rows
-round-of : (m : Map) (side : SideName) (whole : IsMap m) (p : Pos) (above level below : Rank) → IsLow m side (IsRoundIn m.adjacency p p.y) above → IsLow m side (IsRoundIn m.adjacency p (p.y + 1)) level
+round-of : (m : Map) (side : SideName) (whole : IsMap m) (p : Pos) (above level below : Rank) → IsLow m side (IsRoundIn m.adjacency p p.y) above
+    → IsLow m side (IsRoundIn m.adjacency p (p.y + 1)) level
     → IsLow m side (IsRoundIn m.adjacency p (p.y + 1 + 1)) below → IsLow m side (IsRound m.adjacency p) (lower_of side (lower_of side above level) below)
 round-of m side whole p above level below one two three =
     let first : IsLow m side (IsRoundTo m.adjacency p p.y) above = low_same m side (IsRoundIn m.adjacency p p.y) (IsRoundTo m.adjacency p p.y) above
@@ -181,7 +182,8 @@ round-of m side whole p above level below one two three =
     (λ q here r. record { round = r; before = (let n = r.profile.1 in omega (arith, n)) })
     all
 
-module _ (m : Map) (side : SideName) (whole : IsMap m) (f : Frame) (ranks : List Rank) (are : AreRanks m side f ((f.rows + 2) * (f.columns + 2)) ranks) (i j : ℕ) (row : i < f.rows) (column : j < f.columns) where
+module _ (m : Map) (side : SideName) (whole : IsMap m) (f : Frame) (ranks : List Rank) (are : AreRanks m side f ((f.rows + 2) * (f.columns + 2)) ranks) (i j : ℕ) (row : i < f.rows)
+    (column : j < f.columns) where
   -- the rank at one of the places round it
   entry : (u v k : ℕ) → u ≤ 2 → v ≤ 2 → k ≡ i * (f.columns + 2) + u * (f.columns + 2) + (j + v) → IsLow m side (IsAtPlace (f.top + i + u) (f.left + j + v)) (rank_in ranks k)
   entry u v k low narrow e =
@@ -211,11 +213,13 @@ module _ (m : Map) (side : SideName) (whole : IsMap m) (f : Frame) (ranks : List
       let zero_x : f.left + j + 0 ≡ f.left + j = omega arith in
       let zero_y : f.top + i + 0 ≡ f.top + i = omega arith in
       let corner : (u k y : ℕ) → u ≤ 2 → y ≡ f.top + i + u → k ≡ i * w + u * w + j → IsLow m side (IsAtPlace y at.x) (rank_in ranks k) = λ u k y low e g.
-      subst (λ (n : ℕ). IsLow m side (IsAtPlace n at.x) (rank_in ranks k)) (sym e) (subst (λ (x : ℕ). IsLow m side (IsAtPlace (f.top + i + u) x) (rank_in ranks k)) zero_x (entry u 0 k low (omega arith) (omega (arith, g)))) in
+      subst (λ (n : ℕ). IsLow m side (IsAtPlace n at.x) (rank_in ranks k)) (sym e)
+      (subst (λ (x : ℕ). IsLow m side (IsAtPlace (f.top + i + u) x) (rank_in ranks k)) zero_x (entry u 0 k low (omega arith) (omega (arith, g)))) in
       let beside : (u v k y : ℕ) → u ≤ 2 → v ≤ 2 → y ≡ f.top + i + u → k ≡ i * w + u * w + (j + v) → IsLow m side (IsAtPlace y (at.x + v)) (rank_in ranks k) = λ u v k y low narrow e g.
       subst (λ (n : ℕ). IsLow m side (IsAtPlace n (at.x + v)) (rank_in ranks k)) (sym e) (entry u v k low narrow g) in
       let above = row-above m side whole at at.y (omega arith, omega arith) (rank_in ranks first) (rank_in ranks (first + 1)) (rank_in ranks (first + 2))
-      (corner 0 first at.y (omega arith) (omega arith) (omega arith)) (beside 0 1 (first + 1) at.y (omega arith) (omega arith) (omega arith) (omega arith)) (beside 0 2 (first + 2) at.y (omega arith) (omega arith) (omega arith) (omega arith)) refl in
+      (corner 0 first at.y (omega arith) (omega arith) (omega arith)) (beside 0 1 (first + 1) at.y (omega arith) (omega arith) (omega arith) (omega arith))
+      (beside 0 2 (first + 2) at.y (omega arith) (omega arith) (omega arith) (omega arith)) refl in
       let level = row-level m side whole at (at.y + 1) (omega arith, omega arith) (rank_in ranks (first + w)) (rank_in ranks (first + w + 1)) (rank_in ranks (first + w + 2))
       (corner 1 (first + w) (at.y + 1) (omega arith) (omega arith) (omega arith)) (beside 1 1 (first + w + 1) (at.y + 1) (omega arith) (omega arith) (omega arith) (omega arith))
       (beside 1 2 (first + w + 2) (at.y + 1) (omega arith) (omega arith) (omega arith) (omega arith)) refl in
@@ -242,7 +246,8 @@ module _ (m : Map) (side : SideName) (whole : IsMap m) (f : Frame) (ranks : List
   here = (let a = within.left in let b = within.top in same_pos (record { x = f.left + j; y = f.top + i }) p (omega (arith, a)) (omega (arith, b)))
 
   pub lowest-at : IsLow m side (IsRound m.adjacency p) (low_round side m.adjacency ranks (f.columns + 2) (i * (f.columns + 2) + j))
-  lowest-at = subst (λ (q : Pos). IsLow m side (IsRound m.adjacency q) (low_round side m.adjacency ranks (f.columns + 2) (i * (f.columns + 2) + j))) here (lowest-round m side whole f ranks are i j row_in column_in)
+  lowest-at = subst (λ (q : Pos). IsLow m side (IsRound m.adjacency q) (low_round side m.adjacency ranks (f.columns + 2) (i * (f.columns + 2) + j))) here
+      (lowest-round m side whole f ranks are i j row_in column_in)
 
   pub entry-inside : (u v : ℕ) → u ≤ 2 → v ≤ 2 → (i + v) * (f.columns + 2) + (j + u) < length ranks
   entry-inside u v narrow low =
@@ -257,4 +262,5 @@ module _ (m : Map) (side : SideName) (whole : IsMap m) (f : Frame) (ranks : List
       let is = are.each (i + v) (j + u) (let c = column_in in omega (arith, c, narrow)) (let inside = entry-inside u v narrow low in let count = are.whole in omega (arith, inside, count)) in
       let y : f.top + (i + v) ≡ p.y + v = (let b = within.top in omega (arith, b)) in
       let x : f.left + (j + u) ≡ p.x + u = (let a = within.left in omega (arith, a)) in
-      subst (λ (n : ℕ). IsLow m side (IsAtPlace n (p.x + u)) (rank_in ranks ((i + v) * (f.columns + 2) + (j + u)))) y (subst (λ (n : ℕ). IsLow m side (IsAtPlace (f.top + (i + v)) n) (rank_in ranks ((i + v) * (f.columns + 2) + (j + u)))) x is)
+      subst (λ (n : ℕ). IsLow m side (IsAtPlace n (p.x + u)) (rank_in ranks ((i + v) * (f.columns + 2) + (j + u)))) y
+      (subst (λ (n : ℕ). IsLow m side (IsAtPlace (f.top + (i + v)) n) (rank_in ranks ((i + v) * (f.columns + 2) + (j + u)))) x is)

@@ -22,7 +22,8 @@ use Rattle.hd_basin.proofs.PartMaps.{first-to, own-in, own-is, present-from, pre
 use Rattle.hd_basin.proofs.SinkLaws.{pit-sink, sink_by_next}
 use Rattle.hd_basin.proofs.Views.{round_self}
 
-module _ (m n : Map) (side : SideName) (t tile : ℕ) (f w : Frame) (some : 1 ≤ t) (area : IsArea m.size t tile f) (is : IsPartOf m w n) (holds : HoldsRound m.size t tile w) (few : cell_count n.size < no_link)
+module _ (m n : Map) (side : SideName) (t tile : ℕ) (f w : Frame) (some : 1 ≤ t) (area : IsArea m.size t tile f) (is : IsPartOf m w n) (holds : HoldsRound m.size t tile w)
+    (few : cell_count n.size < no_link)
     (firsts : List ℕ) (are : AreFirstLinks n side firsts) (i j : ℕ) (row : i < f.rows) (column : j < f.columns) where
   abbrev here : Pos
   here = point_in f i j
@@ -98,7 +99,8 @@ module _ (m n : Map) (side : SideName) (t tile : ℕ) (f w : Frame) (some : 1 �
   pub part-here : (link ≡ no_link → ⊥) → Present m here
   part-here there = elim (present_or_not n own own_in) [
     | inl at ↦ subst (Present m) own_is (present-to m n w is own at)
-    | inr absent ↦ absurd (there (its.none (λ r point e. absent (subst (Present n) (same_place n.size point.at own point.present.in_grid own_in (ap (λ (z : Rank). z.index) (sym point.rank_is) ∙ e ∙ number_is)) point.present))))
+    | inr absent ↦ absurd (there (its.none (λ r point e. absent (subst (Present n)
+        (same_place n.size point.at own point.present.in_grid own_in (ap (λ (z : Rank). z.index) (sym point.rank_is) ∙ e ∙ number_is)) point.present))))
   ]
 
   module _ (there : link ≡ no_link → ⊥) where
@@ -137,7 +139,8 @@ module _ (m n : Map) (side : SideName) (t tile : ℕ) (f w : Frame) (some : 1 �
         let q = leads at in
         let to : at_place f l ≡ moved w q.to = same ∙ to_is in
         let within : InFrame f (moved w q.to) = subst (InFrame f) to (step-in_frame f l below) in
-        let tile_to : tile_at m.size t (rank m (moved w q.to)) ≡ tile = tile-of_point m t (rank m (moved w q.to)) (moved w q.to) to-present refl ∙ area-tile m.size t tile f some area (moved w q.to) within in
+        let tile_to : tile_at m.size t (rank m (moved w q.to)) ≡ tile = tile-of_point m t (rank m (moved w q.to)) (moved w q.to) to-present refl
+        ∙ area-tile m.size t tile f some area (moved w q.to) within in
         let onward : IsOnward m side t (rank m here) (rank m (moved w q.to)) = elim q.first [
           | inl next ↦ onward-next m side t (rank m here) (rank m (moved w q.to)) next (tile_to ∙ sym tile_here)
           | inr pit ↦ subst (IsOnward m side t (rank m here)) (sym pit.0) (onward-own m side t (rank m here) (pit-sink m side t (rank m here) pit.1))
@@ -153,7 +156,8 @@ module _ (m n : Map) (side : SideName) (t tile : ℕ) (f w : Frame) (some : 1 �
     part-outside outside =
         let q = leads at in
         let sink : IsSink m side t (rank m here) = elim q.first [
-          | inl next ↦ sink_by_next m side t here (moved w q.to) at to-present next (λ e. outside (subst (InFrame f) (sym to_is) (area-in m.size t tile f some area (moved w q.to) to-present.in_grid (e ∙ tile_is))))
+          | inl next ↦ sink_by_next m side t here (moved w q.to) at to-present next
+              (λ e. outside (subst (InFrame f) (sym to_is) (area-in m.size t tile f some area (moved w q.to) to-present.in_grid (e ∙ tile_is))))
           | inr pit ↦ pit-sink m side t (rank m here) pit.1
         ] in
         record {

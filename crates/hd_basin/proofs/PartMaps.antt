@@ -87,22 +87,27 @@ module _ (m n : Map) (f : Frame) (is : IsPartOf m f n) where
   -- the points are the same, with their heights
   pub present-to : (q : Pos) → Present n q → Present m (moved f q)
   present-to q here =
-      let of = of_shown (cell_at m (moved f q)) (mask_at m (moved f q)) (height_or_zero (cell_at n q)) (sym (is.heights q here.in_grid) ∙ shown_of (cell_at n q) (mask_at n q) here.measured here.shown) in
+      let of = of_shown (cell_at m (moved f q)) (mask_at m (moved f q)) (height_or_zero (cell_at n q))
+      (sym (is.heights q here.in_grid) ∙ shown_of (cell_at n q) (mask_at n q) here.measured here.shown) in
       record { in_grid = moved-in q here.in_grid; measured = of.0; shown = of.1 }
 
   height-to : (q : Pos) → Present n q → height_or_zero (cell_at m (moved f q)) ≡ height_or_zero (cell_at n q)
-  height-to q here = (of_shown (cell_at m (moved f q)) (mask_at m (moved f q)) (height_or_zero (cell_at n q)) (sym (is.heights q here.in_grid) ∙ shown_of (cell_at n q) (mask_at n q) here.measured here.shown)).2
+  height-to q here = (of_shown (cell_at m (moved f q)) (mask_at m (moved f q)) (height_or_zero (cell_at n q))
+      (sym (is.heights q here.in_grid) ∙ shown_of (cell_at n q) (mask_at n q) here.measured here.shown)).2
 
   pub present-from : (q : Pos) → InGrid n.size q → Present m (moved f q) → Present n q
   present-from q inside here =
-      let of = of_shown (cell_at n q) (mask_at n q) (height_or_zero (cell_at m (moved f q))) (is.heights q inside ∙ shown_of (cell_at m (moved f q)) (mask_at m (moved f q)) here.measured here.shown) in
+      let of = of_shown (cell_at n q) (mask_at n q) (height_or_zero (cell_at m (moved f q)))
+      (is.heights q inside ∙ shown_of (cell_at m (moved f q)) (mask_at m (moved f q)) here.measured here.shown) in
       record { in_grid = inside; measured = of.0; shown = of.1 }
 
   -- indexes keep their order, which is that of profiles and then of columns in both maps
   place-order : (a b : Pos) → InGrid n.size a → InGrid n.size b → nat_lt (place_of m.size (moved f a)) (place_of m.size (moved f b)) ≡ nat_lt (place_of n.size a) (place_of n.size b)
   place-order a b in_a in_b =
-      let big : (p q : Pos) → InGrid n.size p → p.y < q.y → place_of m.size (moved f p) < place_of m.size (moved f q) = λ p q inside less. place_above m.size (moved f p) (moved f q) (moved-in p inside).column (omega (arith, less)) in
-      let level : (p q : Pos) → p.y ≡ q.y → p.x < q.x → place_of m.size (moved f p) < place_of m.size (moved f q) = λ p q same less. place_before m.size (moved f p) (moved f q) (ap (λ (k : ℕ). f.top + k) same) (omega (arith, less)) in
+      let big : (p q : Pos) → InGrid n.size p → p.y < q.y → place_of m.size (moved f p)
+      < place_of m.size (moved f q) = λ p q inside less. place_above m.size (moved f p) (moved f q) (moved-in p inside).column (omega (arith, less)) in
+      let level : (p q : Pos) → p.y ≡ q.y → p.x < q.x → place_of m.size (moved f p)
+      < place_of m.size (moved f q) = λ p q same less. place_before m.size (moved f p) (moved f q) (ap (λ (k : ℕ). f.top + k) same) (omega (arith, less)) in
       elim (cases_lt a.y b.y) [
         | inl less ↦ lt-both _ _ _ _ (big a b in_a less) (place_above n.size a b in_a.column less)
         | inr more ↦ elim (cases_lt b.y a.y) [
@@ -115,7 +120,8 @@ module _ (m n : Map) (f : Frame) (is : IsPartOf m f n) where
                   | inl greater ↦ lt-neither _ _ _ _ (let h = level b a (sym same) greater in omega (arith, h)) (let h = place_before n.size b a (sym same) greater in omega (arith, h))
                   | inr neither ↦ (
                       let one : a ≡ b = same_pos a b (omega (arith, late, neither)) same in
-                      subst (λ (z : Pos). nat_lt (place_of m.size (moved f a)) (place_of m.size (moved f z)) ≡ nat_lt (place_of n.size a) (place_of n.size z)) one (lt-neither (place_of m.size (moved f a)) (place_of m.size (moved f a)) (place_of n.size a) (place_of n.size a) (omega arith) (omega arith)))
+                      subst (λ (z : Pos). nat_lt (place_of m.size (moved f a)) (place_of m.size (moved f z)) ≡ nat_lt (place_of n.size a) (place_of n.size z)) one
+                      (lt-neither (place_of m.size (moved f a)) (place_of m.size (moved f a)) (place_of n.size a) (place_of n.size a) (omega arith) (omega arith)))
                 ]
               ])
         ]

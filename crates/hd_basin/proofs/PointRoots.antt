@@ -95,7 +95,8 @@ module _ (side : SideName) (pool : Pool) (p : Pos) (n : Node) (q : Pos) (way : O
   way-labelled has inside e = none-right has.map side pool has.pool_of q inside e (flows-point has.map side pool.side n.low q (flows has.map has.whole has.pool_of)).0
 
 -- a node that flows nowhere is at the root
-pub way-end : (side : SideName) (pool : Pool) (p q : Pos) (n : Node) → OnWay side pool p n → n.flows ≡ None → q ≡ position_at pool.size n.low.index → (m : Map) → IsMap m → IsPoolOf m side pool → RootIs m side p (Some q)
+pub way-end : (side : SideName) (pool : Pool) (p q : Pos) (n : Node) → OnWay side pool p n → n.flows ≡ None → q ≡ position_at pool.size n.low.index → (m : Map) → IsMap m
+    → IsPoolOf m side pool → RootIs m side p (Some q)
 way-end side pool p q n way ends at = λ m whole of. (
     let here = way m whole of in
     let pit : IsPit m side n.low = subst (λ (o : Option Pos). MatchOption o (IsPit m side n.low) (FlowsTo m side n.low)) ends here.node.flows in
@@ -106,7 +107,8 @@ way-end side pool p q n way ends at = λ m whole of. (
     (here.present, there, subst (λ (r : Rank). IsRoot m side (rank m p) r) (sym low) (here.same_root n.low (root-pit m side n.low pit))))
 
 -- the point of a node's sink
-sink-there : (m : Map) (side : SideName) (pool : Pool) (of : IsPoolOf m side pool) (tile : ℕ) (n : Node) → HasNode pool.parts tile n → Present m (position_at pool.size n.low.index) × (rank m (position_at pool.size n.low.index) ≡ n.low)
+sink-there : (m : Map) (side : SideName) (pool : Pool) (of : IsPoolOf m side pool) (tile : ℕ) (n : Node) → HasNode pool.parts tile n → Present m (position_at pool.size n.low.index)
+    × (rank m (position_at pool.size n.low.index) ≡ n.low)
 sink-there m side pool of tile n had =
     let point = (of.has.right.nodes tile n tt had).0.sink.point in
     let same : point.at ≡ position_at pool.size n.low.index = sym (rank_position m n.low point.at point.present point.rank_is) ∙ ap (λ (s : Size). position_at s n.low.index) (sym of.size) in

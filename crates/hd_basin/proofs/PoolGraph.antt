@@ -55,13 +55,15 @@ sink_of-point m side t x s h = nexts-point m side t x s h.0 h.1
 
 -- a pass with its lower end first is one, and the only one that names these ends
 order-between : (side : SideName) (p : Pass) → IsBetween p (in_order side p).a (in_order side p).b (in_order side p).at
-order-between side p = elim (below_by side p.b p.a) as (λ v. IsBetween p (cond v (record { a = p.b; b = p.a; at = p.at }) p).a (cond v (record { a = p.b; b = p.a; at = p.at }) p).b (cond v (record { a = p.b; b = p.a; at = p.at }) p).at) [ true ↦ inr refl | false ↦ inl refl ]
+order-between side p = elim (below_by side p.b p.a) as (λ v. IsBetween p (cond v (record { a = p.b; b = p.a; at = p.at }) p).a (cond v (record { a = p.b; b = p.a; at = p.at }) p).b
+    (cond v (record { a = p.b; b = p.a; at = p.at }) p).at) [ true ↦ inr refl | false ↦ inl refl ]
 
 order-low : (side : SideName) (p : Pass) → p.a ≢ p.b → below_by side (in_order side p).a (in_order side p).b ≡ true
-order-low side p apart = elim (below_by side p.b p.a) as (λ v. below_by side p.b p.a ≡ v → below_by side (cond v (record { a = p.b; b = p.a; at = p.at }) p).a (cond v (record { a = p.b; b = p.a; at = p.at }) p).b ≡ true) [
-  | true ↦ λ e. e
-  | false ↦ λ e. not_above-below side p.a p.b e apart
-] refl
+order-low side p apart = elim (below_by side p.b p.a) as (λ v. below_by side p.b p.a ≡ v
+    → below_by side (cond v (record { a = p.b; b = p.a; at = p.at }) p).a (cond v (record { a = p.b; b = p.a; at = p.at }) p).b ≡ true) [
+      | true ↦ λ e. e
+      | false ↦ λ e. not_above-below side p.a p.b e apart
+    ] refl
 
 order-of : (side : SideName) (p : Pass) (a b w : Rank) → below_by side a b ≡ true → IsBetween p a b w → in_order side p ≡ record { a = a; b = b; at = w }
 order-of side p a b w low (inl e) = ap (in_order side) e ∙ rw (below-not_above (below_by side) (below_by-order side) a b low) refl
@@ -73,7 +75,8 @@ pass-live side parts s other at seen =
     rw e (Contains-head (in_order side s.pass) [])
 
 -- what links the basins of a pool is listed, with its lower end first
-listed-linked : (side : SideName) (parts : List Part) (a b w : Rank) → below_by side a b ≡ true → IsLinked parts a b w → Contains (flat_map (passes_in side parts) parts) (record { a = a; b = b; at = w })
+listed-linked : (side : SideName) (parts : List Part) (a b w : Rank) → below_by side a b ≡ true → IsLinked parts a b w
+    → Contains (flat_map (passes_in side parts) parts) (record { a = a; b = b; at = w })
 listed-linked side parts a b w low (inl i) =
     flat-Contains (passes_in side parts) parts i.tile i.part _ i.at
     (Contains-append_left (map (in_order side) (inner_passes i.part)) (flat_map (pass_of side parts) i.part.seams) _
@@ -98,8 +101,22 @@ linked-listed side parts p h =
           let g = Contains-flat (pass_of side parts) part.seams p across in
           let s : Seam = g.1 in
           let l = live-pass side parts s p g.3 in
-          let o = live-part (slice_get parts s.with) s.stamp l.1 in
-          (s.pass, l.0, inr (record { tile = f.0; part = part; seam = s; other = o.0; at = f.2; has = read-contains part.seams g.0 s g.2; between = subst (λ (q : Pass). IsBetween s.pass q.a q.b q.at) (sym l.0) (order-between side s.pass); with_at = o.1; since = o.2 })))
+          let o = live-part (slice_get parts s.with) s.stamp l.1 in (
+            s.pass,
+            l.0,
+            inr (record {
+              tile = f.0;
+              part = part;
+              seam = s;
+              other = o.0;
+              at = f.2;
+              has = read-contains part.seams g.0 s g.2;
+              between = subst (λ
+                  (q : Pass). IsBetween s.pass q.a q.b q.at) (sym l.0) (order-between side s.pass);
+              with_at = o.1;
+              since = o.2;
+            }),
+          ))
     ]
 
 module _ (m : Map) (side : SideName) (pool : Pool) (of : IsPoolOf m side pool) where
@@ -119,7 +136,8 @@ module _ (m : Map) (side : SideName) (pool : Pool) (of : IsPoolOf m side pool) w
     some = has_sink;
     one = λ x a b xa xb. sink-unique m side pool.side x a b xa xb;
     settles = λ x a h.
-        let p = path-from_reach (Near m) (below_by side) (below_by-order side) x (not_above-refl (below_by side) (below_by-order side) x) (sink-settles m side pool.side x x a (not_above-refl (below_by side) (below_by-order side) x) h) in
+        let p = path-from_reach (Near m) (below_by side) (below_by-order side) x (not_above-refl (below_by side) (below_by-order side) x)
+        (sink-settles m side pool.side x x a (not_above-refl (below_by side) (below_by-order side) x) h) in
         (p.0, record { point = sink_of-point m side pool.side x a h; leads = p.1 }, All-tail (λ y. IsNotAbove (below_by side) y x) x p.0 p.2);
   }
 
@@ -205,11 +223,16 @@ module _ (m : Map) (side : SideName) (pool : Pool) (of : IsPoolOf m side pool) w
 -- such lows and passes are crossings
 module _ (m : Map) (side : SideName) (t : ℕ) (net : Net) (is : IsGraphOf m side t net) where
   -- where two basins meet, a pass that is not above the meeting joins them
-  joined_at : (a b w : Rank) → below_by side a b ≡ true → IsMeeting m side (IsSinkOf m side t) a b w → (u : Rank) × Contains net.passes (record { a = a; b = b; at = u }) × IsNotAbove (below_by side) u w
+  joined_at : (a b w : Rank) → below_by side a b ≡ true → IsMeeting m side (IsSinkOf m side t) a b w → (u : Rank) × Contains net.passes (record { a = a; b = b; at = u })
+      × IsNotAbove (below_by side) u w
   joined_at a b w low meet =
       let p = is.passes.all a b w low meet in
-      let same : p.0 ≡ record { a = a; b = b; at = (p.0).at } = named p.0 p.2 p.3 in
-      ((p.0).at, subst (λ (q : Pass). Contains net.passes q) same p.1, (is.passes.each p.0 p.1).lowest w (subst (λ v. IsMeeting m side (IsSinkOf m side t) v (p.0).b w) (sym p.2) (subst (λ v. IsMeeting m side (IsSinkOf m side t) a v w) (sym p.3) meet)))
+      let same : p.0 ≡ record { a = a; b = b; at = (p.0).at } = named p.0 p.2 p.3 in (
+        (p.0).at,
+        subst (λ (q : Pass). Contains net.passes q) same p.1,
+        (is.passes.each p.0 p.1).lowest w
+            (subst (λ v. IsMeeting m side (IsSinkOf m side t) v (p.0).b w) (sym p.2) (subst (λ v. IsMeeting m side (IsSinkOf m side t) a v w) (sym p.3) meet)),
+      )
     where
       named : (q : Pass) → q.a ≡ a → q.b ≡ b → q ≡ record { a = a; b = b; at = q.at }
       named q e f = ap (λ v. record { a = v; b = q.b; at = q.at }) e ∙ ap (λ v. record { a = a; b = v; at = q.at }) f
@@ -238,4 +261,5 @@ pub pool-is_graph : (side : SideName) (pool : Pool) → IsSound pool → HasMap 
 pool-is_graph side pool sound has =
     let net : Net = record { lows = flat_map lows_in pool.parts; passes = flat_map (passes_in side pool.parts) pool.parts } in
     let is = pool-graph has.map side pool has.pool_of sound in
-    basins-graph has.map side (IsSinkOf has.map side pool.side) is.basins net.passes (graph-crossings has.map side pool.side net is) has.whole net.lows is.lows (lows-different has.map side pool has.pool_of)
+    basins-graph has.map side (IsSinkOf has.map side pool.side) is.basins net.passes (graph-crossings has.map side pool.side net is) has.whole net.lows is.lows
+    (lows-different has.map side pool has.pool_of)

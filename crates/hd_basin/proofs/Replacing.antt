@@ -32,10 +32,12 @@ abbrev pub pool_of : Map → ℕ → List Part → Pool
 pool_of m t parts = record { size = m.size; side = t; parts = parts }
 
 -- a pool in step has the size of the map
-pub in_step-sized : (m : Map) (side : SideName) (stamps : List ℕ) (s : Size) (t : ℕ) (parts : List Part) → IsInStep m side stamps (record { size = s; side = t; parts = parts }) → IsInStep m side stamps (pool_of m t parts)
+pub in_step-sized : (m : Map) (side : SideName) (stamps : List ℕ) (s : Size) (t : ℕ) (parts : List Part) → IsInStep m side stamps (record { size = s; side = t; parts = parts })
+    → IsInStep m side stamps (pool_of m t parts)
 in_step-sized m side stamps s t parts step = subst (λ (z : Size). IsInStep m side stamps (record { size = z; side = t; parts = parts })) step.size step
 
-pub in_step-sized_back : (m : Map) (side : SideName) (stamps : List ℕ) (s : Size) (t : ℕ) (parts : List Part) → s ≡ m.size → IsInStep m side stamps (pool_of m t parts) → IsInStep m side stamps (record { size = s; side = t; parts = parts })
+pub in_step-sized_back : (m : Map) (side : SideName) (stamps : List ℕ) (s : Size) (t : ℕ) (parts : List Part) → s ≡ m.size → IsInStep m side stamps (pool_of m t parts)
+    → IsInStep m side stamps (record { size = s; side = t; parts = parts })
 in_step-sized_back m side stamps s t parts size step = subst (λ (z : Size). IsInStep m side stamps (record { size = z; side = t; parts = parts })) (sym size) step
 
 -- a pass with these ends is between them both ways
@@ -45,7 +47,18 @@ between-sym p a b w (inr e) = inl e
 
 linked-sym : (parts : List Part) (a b w : Rank) → IsLinked parts a b w → IsLinked parts b a w
 linked-sym parts a b w (inl x) = inl (record { tile = x.tile; part = x.part; pass = x.pass; at = x.at; has = x.has; between = between-sym x.pass a b w x.between })
-linked-sym parts a b w (inr x) = inr (record { tile = x.tile; part = x.part; seam = x.seam; other = x.other; at = x.at; has = x.has; between = between-sym x.seam.pass a b w x.between; with_at = x.with_at; since = x.since })
+linked-sym parts a b w (inr x) = inr (record {
+  tile = x.tile;
+  part = x.part;
+  seam = x.seam;
+  other = x.other;
+  at = x.at;
+  has = x.has;
+  between =
+      between-sym x.seam.pass a b w x.between;
+  with_at = x.with_at;
+  since = x.since;
+})
 
 -- what holds of both ends of a pass holds of what it joins
 pub both_ends : (P : Rank → Type 0) (p : Pass) (a b w : Rank) → IsBetween p a b w → P p.a → P p.b → P a × P b
@@ -151,7 +164,18 @@ module _ (m : Map) (side : SideName) (t : ℕ) (stamps : List ℕ) (parts : List
         let ends = seam_ends m t x.tile x.seam a b w x.between (sound.across x.tile x.part x.seam x.at x.has) in
         let far : x.tile ≢ tile = λ e. elim ends [ inl h ↦ one (h.0 ∙ e) | inr h ↦ other (h.0 ∙ e) ] in
         let apart : x.seam.with ≢ tile = λ e. elim ends [ inl h ↦ other (h.1 ∙ e) | inr h ↦ one (h.1 ∙ e) ] in
-        inr (record { tile = x.tile; part = x.part; seam = x.seam; other = x.other; at = away x.tile far ∙ x.at; has = x.has; between = x.between; with_at = away x.seam.with apart ∙ x.with_at; since = x.since })
+        inr (record {
+          tile = x.tile;
+          part = x.part;
+          seam = x.seam;
+          other = x.other;
+          at = away x.tile far ∙ x.at;
+          has = x.has;
+          between = x.between;
+          with_at = away x.seam.with apart
+              ∙ x.with_at;
+          since = x.since;
+        })
 
   -- of another tile the pool has what it had
   node-back : (j : ℕ) (n : Node) → j ≢ tile → HasNode after j n → HasNode parts j n
@@ -209,8 +233,21 @@ module _ (m : Map) (side : SideName) (t : ℕ) (stamps : List ℕ) (parts : List
           let h = built.across_all a b u one fresh apart meet in
           let r = built.across h.0 h.1 in
           let f = r.2 in
-          let value : f.stamp ≡ h.0.stamp = same_Some f.stamp h.0.stamp (sym f.now ∙ r.3) in
-          (h.2, inr (record { tile = tile; part = part; seam = h.0; other = f.part; at = here; has = h.1; between = h.3; with_at = away h.0.with (fresh-other h.0.with f) ∙ f.at; since = f.seen ∙ ap (λ (k : ℕ). Some k) value })))
+          let value : f.stamp ≡ h.0.stamp = same_Some f.stamp h.0.stamp (sym f.now ∙ r.3) in (
+            h.2,
+            inr (record {
+              tile = tile;
+              part = part;
+              seam = h.0;
+              other = f.part;
+              at = here;
+              has = h.1;
+              between = h.3;
+              with_at = away h.0.with (fresh-other h.0.with f)
+                  ∙ f.at;
+              since = f.seen ∙ ap (λ (k : ℕ). Some k) value;
+            }),
+          ))
     ];
     both_ways = linked-sym after;
   }

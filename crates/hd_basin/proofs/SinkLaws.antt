@@ -67,7 +67,8 @@ module _ (m : Map) (side : SideName) (t : ℕ) where
   -- a sink is not above the points of its basin
   nexts-not_above : (p s : Rank) (xs : List Rank) → AreNextsInside m side t p xs s → IsNotAbove (below_by side) s p
   nexts-not_above p s [] nexts = subst (λ (z : Rank). IsNotAbove (below_by side) z p) nexts.0 (not_above-refl (below_by side) (below_by-order side) p)
-  nexts-not_above p s (x ∷ xs) nexts = not_above-trans (below_by side) (below_by-order side) s x p (nexts-not_above x s xs nexts.2) (below-not_above (below_by side) (below_by-order side) x p nexts.0.lower.below)
+  nexts-not_above p s (x ∷ xs) nexts = not_above-trans (below_by side) (below_by-order side) s x p (nexts-not_above x s xs nexts.2)
+      (below-not_above (below_by side) (below_by-order side) x p nexts.0.lower.below)
 
   pub sink-not_above : (p s : Rank) → IsSinkOf m side t p s → IsNotAbove (below_by side) s p
   sink-not_above p s of = nexts-not_above p s of.0 of.1
@@ -89,7 +90,8 @@ module _ (m : Map) (side : SideName) (t : ℕ) where
     pub sink : IsSinkOf m side t next u
 
 -- a point whose next is in another tile is a sink
-pub sink_by_next : (m : Map) (side : SideName) (t : ℕ) (p q : Pos) → Present m p → Present m q → IsNext m side (rank m p) (rank m q) → tile_of m.size t q ≢ tile_of m.size t p → IsSink m side t (rank m p)
+pub sink_by_next : (m : Map) (side : SideName) (t : ℕ) (p q : Pos) → Present m p → Present m q → IsNext m side (rank m p) (rank m q) → tile_of m.size t q ≢ tile_of m.size t p
+    → IsSink m side t (rank m p)
 sink_by_next m side t p q present there next other = record {
   point = point_at m p present;
   leaves = λ r is same. other (

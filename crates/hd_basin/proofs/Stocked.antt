@@ -1,5 +1,6 @@
 -- What stands under keys: how it is read, put in, taken out, and replaced for a tile.
-use Rattle.std.proofs.Common.{◌≡◌, ◌≢◌, ◌<◌, ◌+◌, ℕ, zero, suc, ◌⊎◌, inl, inr, List, [], ◌∷◌, ◌++◌, get_or, length, map, set, take, Option, Some, None, is_some, IsSome, option_and_then, option_map, slice_get, slice_index_or, refl, sym, ◌∙◌, ap, ap₂, subst, arith}
+use Rattle.std.proofs.Common.{◌≡◌, ◌≢◌, ◌<◌, ◌+◌, ℕ, zero, suc, ◌⊎◌, inl, inr, List, [], ◌∷◌, ◌++◌, get_or, length, map, set, take, Option, Some, None}
+use Rattle.std.proofs.Common.{is_some, IsSome, option_and_then, option_map, slice_get, slice_index_or, refl, sym, ◌∙◌, ap, ap₂, subst, arith}
 use Rattle.std.proofs.lemmas.List.{length-map, take_more}
 use Rattle.std.specs.Prelude.{All, Contains, AllPairs}
 use Rattle.std.specs.List.{cons_option}
@@ -97,7 +98,8 @@ put-none old new keys same empty = subst (λ (ks : List ℕ). ArePut old new ks 
 })
 
 -- one more is
-module _ (old mid new : Slab Node) (keys : List ℕ) (nodes : List Node) (key : ℕ) (n : Node) (so_far : ArePut old mid keys nodes) (free : get mid key ≡ None) (updates : Updates mid new key (Some n)) where
+module _ (old mid new : Slab Node) (keys : List ℕ) (nodes : List Node) (key : ℕ) (n : Node) (so_far : ArePut old mid keys nodes) (free : get mid key ≡ None)
+    (updates : Updates mid new key (Some n)) where
   apart : (k : ℕ) → Contains keys k → k ≢ key
   apart k has same = none-key mid k (ap (get mid) same ∙ free) (so_far.there k has)
 
@@ -121,7 +123,8 @@ module _ (old mid new : Slab Node) (keys : List ℕ) (nodes : List Node) (key : 
   }
 
 -- the next of some nodes is
-pub put-next : (old mid new : Slab Node) (keys all : List ℕ) (nodes : List Node) (i : ℕ) (d : Node) (key : ℕ) → i < length nodes → ArePut old mid keys (take i nodes) → get mid key ≡ None → Updates mid new key (Some (get_or nodes i d))
+pub put-next : (old mid new : Slab Node) (keys all : List ℕ) (nodes : List Node) (i : ℕ) (d : Node) (key : ℕ) → i < length nodes → ArePut old mid keys (take i nodes)
+    → get mid key ≡ None → Updates mid new key (Some (get_or nodes i d))
     → all ≡ keys ++ key ∷ [] → ArePut old new all (take (i + 1) nodes)
 put-next old mid new keys all nodes i d key inside so_far free updates is =
     subst (λ (ks : List ℕ). ArePut old new ks (take (i + 1) nodes)) (sym is)
@@ -150,7 +153,8 @@ map-agree f g (x ∷ xs) agree = ap₂ (λ v vs. v ∷ vs) (agree 0 x refl) (map
 map-set : {X Y : Type 0} (f g : X → Y) (xs : List X) (i : ℕ) (x : X) (y : Y) → f x ≡ y → ((j : ℕ) (z : X) → j ≢ i → slice_get xs j ≡ Some z → f z ≡ g z) → map f (set xs i x) ≡ set (map g xs) i y
 map-set f g [] i x y here agree = refl
 map-set f g (z ∷ xs) zero x y here agree = ap₂ (λ v vs. v ∷ vs) here (map-agree f g xs (λ j w at. agree (suc j) w (λ e. absurd (omega (arith, e))) at))
-map-set f g (z ∷ xs) (suc i) x y here agree = ap₂ (λ v vs. v ∷ vs) (agree 0 z (λ e. absurd (omega (arith, e))) refl) (map-set f g xs i x y here (λ j w far at. agree (suc j) w (λ e. far (omega (arith, e))) at))
+map-set f g (z ∷ xs) (suc i) x y here agree = ap₂ (λ v vs. v ∷ vs) (agree 0 z (λ e. absurd (omega (arith, e))) refl)
+    (map-set f g xs i x y here (λ j w far at. agree (suc j) w (λ e. far (omega (arith, e))) at))
 
 -- a tile with these nodes
 abbrev pub with_nodes : Kept → List Node → Part
@@ -274,7 +278,8 @@ module _ (nodes : Slab Node) (tiles : List Kept) (blank : All IsBlank tiles) whe
   pub blank-stocked : nodes.slots ≡ [] → AreStocked nodes tiles
   blank-stocked empty = record {
     there = λ tile kept at key has. absurd (lists_none tile kept key at has);
-    once = λ tile kept at. subst (λ (ks : List ℕ). AllPairs (λ a b. a ≢ b) ks) (sym (All-contains IsBlank tiles kept blank (read-contains tiles tile kept at)).keys) (λ i j d less below. absurd (omega arith));
+    once = λ tile kept at. subst (λ (ks : List ℕ). AllPairs (λ a b. a ≢ b) ks) (sym (All-contains IsBlank tiles kept blank (read-contains tiles tile kept at)).keys)
+        (λ i j d less below. absurd (omega arith));
     apart = λ i j k l key at there has had. absurd (lists_none i k key at has);
     listed = λ key has. absurd (none-key nodes key (ap (λ (slots : List (Option Node)). slice_index_or slots key None) empty) has);
   }

@@ -1,5 +1,6 @@
 -- Sums of the same set, of a set of one point, and of two sets that share none.
-use Rattle.std.proofs.Common.{Bool, true, false, ◌≡◌, ◌+◌, ◌-◌, ◌<◌, ℕ, ℤ, zero, suc, List, [], ◌∷◌, ◌++◌, length, length-append, get_or, Option, Some, None, ◌⊎◌, inl, inr, refl, sym, ◌∙◌, subst, arith}
+use Rattle.std.proofs.Common.{Bool, true, false, ◌≡◌, ◌+◌, ◌-◌, ◌<◌, ℕ, ℤ, zero, suc, List, [], ◌∷◌, ◌++◌, length, length-append, get_or, Option, Some}
+use Rattle.std.proofs.Common.{None, ◌⊎◌, inl, inr, refl, sym, ◌∙◌, subst, arith}
 use Rattle.std.specs.Prelude.{◌↔◌, ◌≤ℤ◌, Contains, MatchOption}
 use Rattle.std.specs.List.{AllPairs}
 use Rattle.std.proofs.Math.Seq.{get_or-append_right}
@@ -30,11 +31,13 @@ module _ (Member Other Edge OtherEdge : Rank → Type 0) (same : (r : Rank) → 
   edge-same : (r : Rank) → EdgeMember Member Edge r ↔ EdgeMember Other OtherEdge r
   edge-same r = (λ e. ((same r).0 e.0, (edges r e.0).0 e.1), λ e. (let mine = (same r).1 e.0 in (mine, (edges r mine).1 e.1)))
 
-  lowest_edge-same : (o : Option ℤ) → MatchOption o ((r : Rank) → EdgeMember Member Edge r → ⊥) (IsLeast (EdgeMember Member Edge)) → MatchOption o ((r : Rank) → EdgeMember Other OtherEdge r → ⊥) (IsLeast (EdgeMember Other OtherEdge))
+  lowest_edge-same : (o : Option ℤ) → MatchOption o ((r : Rank) → EdgeMember Member Edge r → ⊥) (IsLeast (EdgeMember Member Edge))
+      → MatchOption o ((r : Rank) → EdgeMember Other OtherEdge r → ⊥) (IsLeast (EdgeMember Other OtherEdge))
   lowest_edge-same None absent = λ r e. absent r ((edge-same r).1 e)
   lowest_edge-same (Some h) least = least-same (EdgeMember Member Edge) (EdgeMember Other OtherEdge) edge-same h least
 
-  highest_edge-same : (o : Option ℤ) → MatchOption o ((r : Rank) → EdgeMember Member Edge r → ⊥) (IsGreatest (EdgeMember Member Edge)) → MatchOption o ((r : Rank) → EdgeMember Other OtherEdge r → ⊥) (IsGreatest (EdgeMember Other OtherEdge))
+  highest_edge-same : (o : Option ℤ) → MatchOption o ((r : Rank) → EdgeMember Member Edge r → ⊥) (IsGreatest (EdgeMember Member Edge))
+      → MatchOption o ((r : Rank) → EdgeMember Other OtherEdge r → ⊥) (IsGreatest (EdgeMember Other OtherEdge))
   highest_edge-same None absent = λ r e. absent r ((edge-same r).1 e)
   highest_edge-same (Some h) greatest = greatest-same (EdgeMember Member Edge) (EdgeMember Other OtherEdge) edge-same h greatest
 
@@ -48,7 +51,8 @@ module _ (Member Other Edge OtherEdge : Rank → Type 0) (same : (r : Rank) → 
   }
 
 -- of two lists of different elements that share none the elements are different
-different-append : {X : Type 0} (xs ys : List X) → AllPairs (λ a b. a ≡ b → ⊥) xs → AllPairs (λ a b. a ≡ b → ⊥) ys → ((x : X) → Contains xs x → Contains ys x → ⊥) → AllPairs (λ a b. a ≡ b → ⊥) (xs ++ ys)
+different-append : {X : Type 0} (xs ys : List X) → AllPairs (λ a b. a ≡ b → ⊥) xs → AllPairs (λ a b. a ≡ b → ⊥) ys → ((x : X) → Contains xs x → Contains ys x → ⊥)
+    → AllPairs (λ a b. a ≡ b → ⊥) (xs ++ ys)
 different-append {X} xs ys one other apart i j d less below e =
     let total : length (xs ++ ys) ≡ length xs + length ys = length-append xs ys in
     elim (cases_lt j (length xs)) [
@@ -173,32 +177,42 @@ module _ (Member Edge : Rank → Type 0) (r : Rank) (fresh : Member r → ⊥) w
   more-edges edge x = (λ e. elim e [ inl old ↦ (inl old.0, old.1) | inr same ↦ (inr same, subst Edge (sym same) edge) ], λ e. elim (one-edge x e) [ inl old ↦ inl old | inr new ↦ inr new.0 ])
 
   greatest-alone : Edge r → ((x : Rank) → EdgeMember Member Edge x → ⊥) → IsGreatest (EdgeMember More Edge) r.height
-  greatest-alone edge none = greatest-by (λ x. x ≡ r) (EdgeMember More Edge) (λ x. (λ same. (inr same, subst Edge (sym same) edge), λ e. elim (one-edge x e) [ inl old ↦ absurd (none x old) | inr new ↦ new.0 ])) r.height (greatest-one r)
+  greatest-alone edge none = greatest-by (λ x. x ≡ r) (EdgeMember More Edge) (λ x.
+      (λ same. (inr same, subst Edge (sym same) edge), λ e. elim (one-edge x e) [ inl old ↦ absurd (none x old) | inr new ↦ new.0 ])) r.height (greatest-one r)
 
   least-alone : Edge r → ((x : Rank) → EdgeMember Member Edge x → ⊥) → IsLeast (EdgeMember More Edge) r.height
-  least-alone edge none = least-by (λ x. x ≡ r) (EdgeMember More Edge) (λ x. (λ same. (inr same, subst Edge (sym same) edge), λ e. elim (one-edge x e) [ inl old ↦ absurd (none x old) | inr new ↦ new.0 ])) r.height (least-one r)
+  least-alone edge none = least-by (λ x. x ≡ r) (EdgeMember More Edge) (λ x. (
+    λ same. (inr same, subst Edge (sym same) edge),
+    λ e. elim (one-edge x e)
+        [ inl old ↦ absurd (none x old) | inr new ↦ new.0 ],
+  )) r.height (least-one r)
 
   sums-edge_high : (edge : Bool) → (edge ≡ true → Edge r) → (edge ≡ false → Edge r → ⊥) → (o o' : Option ℤ) → GoesOn IsGreater edge o r.height o' →
       MatchOption o ((x : Rank) → EdgeMember Member Edge x → ⊥) (IsGreatest (EdgeMember Member Edge)) → MatchOption o' ((x : Rank) → EdgeMember More Edge x → ⊥) (IsGreatest (EdgeMember More Edge))
   sums-edge_high false on off o o' e h = subst (λ (p : Option ℤ). MatchOption p ((x : Rank) → EdgeMember More Edge x → ⊥) (IsGreatest (EdgeMember More Edge))) (sym e) (kept o h)
     where
-      kept : (o : Option ℤ) → MatchOption o ((x : Rank) → EdgeMember Member Edge x → ⊥) (IsGreatest (EdgeMember Member Edge)) → MatchOption o ((x : Rank) → EdgeMember More Edge x → ⊥) (IsGreatest (EdgeMember More Edge))
+      kept : (o : Option ℤ) → MatchOption o ((x : Rank) → EdgeMember Member Edge x → ⊥) (IsGreatest (EdgeMember Member Edge))
+          → MatchOption o ((x : Rank) → EdgeMember More Edge x → ⊥) (IsGreatest (EdgeMember More Edge))
       kept None none = λ x e. none x ((same-edges (off refl) x).1 e)
       kept (Some g) greatest = greatest-by (EdgeMember Member Edge) (EdgeMember More Edge) (same-edges (off refl)) g greatest
-  sums-edge_high true on off None o' e none = subst (λ (p : Option ℤ). MatchOption p ((x : Rank) → EdgeMember More Edge x → ⊥) (IsGreatest (EdgeMember More Edge))) (sym e) (greatest-alone (on refl) none)
+  sums-edge_high true on off None o' e none = subst (λ (p : Option ℤ). MatchOption p ((x : Rank) → EdgeMember More Edge x → ⊥) (IsGreatest (EdgeMember More Edge))) (sym e)
+      (greatest-alone (on refl) none)
   sums-edge_high true on off (Some g) None e h = absurd e
-  sums-edge_high true on off (Some g) (Some c) e h = greatest-by (Either (EdgeMember Member Edge) (λ y. y ≡ r)) (EdgeMember More Edge) (more-edges (on refl)) c (greatest-more (EdgeMember Member Edge) g c h e)
+  sums-edge_high true on off (Some g) (Some c) e h = greatest-by (Either (EdgeMember Member Edge) (λ y. y ≡ r)) (EdgeMember More Edge) (more-edges (on refl)) c
+      (greatest-more (EdgeMember Member Edge) g c h e)
 
   sums-edge_low : (edge : Bool) → (edge ≡ true → Edge r) → (edge ≡ false → Edge r → ⊥) → (o o' : Option ℤ) → GoesOn IsLesser edge o r.height o' →
       MatchOption o ((x : Rank) → EdgeMember Member Edge x → ⊥) (IsLeast (EdgeMember Member Edge)) → MatchOption o' ((x : Rank) → EdgeMember More Edge x → ⊥) (IsLeast (EdgeMember More Edge))
   sums-edge_low false on off o o' e h = subst (λ (p : Option ℤ). MatchOption p ((x : Rank) → EdgeMember More Edge x → ⊥) (IsLeast (EdgeMember More Edge))) (sym e) (kept o h)
     where
-      kept : (o : Option ℤ) → MatchOption o ((x : Rank) → EdgeMember Member Edge x → ⊥) (IsLeast (EdgeMember Member Edge)) → MatchOption o ((x : Rank) → EdgeMember More Edge x → ⊥) (IsLeast (EdgeMember More Edge))
+      kept : (o : Option ℤ) → MatchOption o ((x : Rank) → EdgeMember Member Edge x → ⊥) (IsLeast (EdgeMember Member Edge))
+          → MatchOption o ((x : Rank) → EdgeMember More Edge x → ⊥) (IsLeast (EdgeMember More Edge))
       kept None none = λ x e. none x ((same-edges (off refl) x).1 e)
       kept (Some g) least = least-by (EdgeMember Member Edge) (EdgeMember More Edge) (same-edges (off refl)) g least
   sums-edge_low true on off None o' e none = subst (λ (p : Option ℤ). MatchOption p ((x : Rank) → EdgeMember More Edge x → ⊥) (IsLeast (EdgeMember More Edge))) (sym e) (least-alone (on refl) none)
   sums-edge_low true on off (Some g) None e h = absurd e
-  sums-edge_low true on off (Some g) (Some c) e h = least-by (Either (EdgeMember Member Edge) (λ y. y ≡ r)) (EdgeMember More Edge) (more-edges (on refl)) c (least-more (EdgeMember Member Edge) g c h e)
+  sums-edge_low true on off (Some g) (Some c) e h = least-by (Either (EdgeMember Member Edge) (λ y. y ≡ r)) (EdgeMember More Edge) (more-edges (on refl)) c
+      (least-more (EdgeMember Member Edge) g c h e)
 
   -- a node that counts one more point has the sums with it
   pub sums-more : (edge : Bool) → (edge ≡ true → Edge r) → (edge ≡ false → Edge r → ⊥) → (old new : Node) → AddsPoint r.height edge old new →

@@ -44,7 +44,8 @@ module _ (pool : Pool) (unseen : All IsUnseen pool.parts) where
     joined = λ tile part other seam at has. absurd (no_seam tile part seam at has);
     since = λ tile part seam at has. absurd (no_seam tile part seam at has);
     once = record {
-      inside = λ tile part at. subst (λ (js : List Join). AllPairs (λ p q. JoinOthers p q) (map (pass_named part.nodes) js)) (sym (none_at tile part at).joins) (λ i j d less below. absurd (omega arith));
+      inside = λ tile part at. subst (λ (js : List Join). AllPairs (λ p q. JoinOthers p q) (map (pass_named part.nodes) js)) (sym (none_at tile part at).joins)
+          (λ i j d less below. absurd (omega arith));
       across = λ tile part at. subst (λ (xs : List Seam). AllPairs (λ (s u : Seam). JoinOthers s.pass u.pass) xs) (sym (none_at tile part at).seams) (λ i j d less below. absurd (omega arith));
       one_way = λ i j p q s u at there has other. absurd (no_seam i p s at has);
     };

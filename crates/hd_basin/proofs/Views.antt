@@ -80,7 +80,8 @@ module _ (m n : Map) (t tile : ℕ) where
 
   -- and so does its rank
   pub rank_kept : ShowSame m n t tile → (q : Pos) → Present m q → IsRound m.size t tile q → rank m q ≡ rank n q
-  rank_kept a q here round = same (height_or_zero (cell_at m q)) (height_or_zero (cell_at n q)) (place_of m.size q) (place_of n.size q) (sym (shows_there a q round here).height) (ap (λ (s : Size). place_of s q) a.size)
+  rank_kept a q here round = same (height_or_zero (cell_at m q)) (height_or_zero (cell_at n q)) (place_of m.size q) (place_of n.size q) (sym (shows_there a q round here).height)
+      (ap (λ (s : Size). place_of s q) a.size)
     where
       same : (g h : ℤ) (i j : ℕ) → g ≡ h → i ≡ j → ◌≡◌ {A = Rank} (record { height = g; index = i }) (record { height = h; index = j })
       same g h i j p q = cc
@@ -95,7 +96,15 @@ module _ (m n : Map) (t tile : ℕ) where
   neighbour_kept a p q in_tile h =
       let here = round_self m.size t tile p h.from.in_grid in_tile in
       let there : IsRound m.size t tile q = record { from = p; in_grid = h.from.in_grid; in_tile = in_tile; columns = h.columns; rows = h.rows } in
-      record { from = present_kept a p here h.from; to = present_kept a q there h.to; columns = h.columns; rows = h.rows; different = h.different; beside = subst (λ (setting : Adjacency). AreBesideUnder setting p q) a.adjacency h.beside }
+      record {
+        from = present_kept a p here h.from;
+        to = present_kept a q there h.to;
+        columns = h.columns;
+        rows = h.rows;
+        different = h.different;
+        beside = subst (λ
+            (setting : Adjacency). AreBesideUnder setting p q) a.adjacency h.beside;
+      }
 
   near_kept : ShowSame m n t tile → (x y : Rank) → tile_at m.size t x ≡ tile → Near m x y → Near n x y
   near_kept a x y e near =
@@ -106,7 +115,14 @@ module _ (m n : Map) (t tile : ℕ) where
       record {
         from = near.from;
         to = near.to;
-        neighbour = record { from = present_kept a near.from here h.from; to = present_kept a near.to there h.to; columns = h.columns; rows = h.rows; different = h.different; beside = subst (λ (setting : Adjacency). AreBesideUnder setting near.from near.to) a.adjacency h.beside };
+        neighbour = record {
+          from = present_kept a near.from here h.from;
+          to = present_kept a near.to there h.to;
+          columns = h.columns;
+          rows = h.rows;
+          different = h.different;
+          beside = subst (λ (setting : Adjacency). AreBesideUnder setting near.from near.to) a.adjacency h.beside;
+        };
         from_rank = near.from_rank ∙ rank_kept a near.from h.from here;
         to_rank = near.to_rank ∙ rank_kept a near.to h.to there;
       }
@@ -243,14 +259,16 @@ node_kept m n side t tile k x e node =
     }
 
 -- and so is a label
-pub label_kept : (m n : Map) (side : SideName) (t tile : ℕ) → Keeps m n t tile → (p : Pos) → InGrid m.size p → tile_of m.size t p ≡ tile → (l : Option Rank) → IsLabel m side t p l → IsLabel n side t p l
+pub label_kept : (m n : Map) (side : SideName) (t tile : ℕ) → Keeps m n t tile → (p : Pos) → InGrid m.size p → tile_of m.size t p ≡ tile → (l : Option Rank) → IsLabel m side t p l
+    → IsLabel n side t p l
 label_kept m n side t tile k p inside e None absent = λ here. absent ((k.presents p inside e).1 here)
 label_kept m n side t tile k p inside e (Some s) l =
     let at : tile_at m.size t (rank m p) ≡ tile = tile-of_point m t (rank m p) p l.0 refl ∙ e in
     ((k.presents p inside e).0 l.0, subst (λ (r : Rank). IsSinkOf n side t r s) (k.ranks p inside e l.0) (sink_of_kept m n side t tile k (rank m p) s at l.1))
 
 -- where two basins meet in one map, they meet in the other, if both of their tiles are kept
-pub meeting_kept : (m n : Map) (side : SideName) (t i j : ℕ) → Keeps m n t i → Keeps m n t j → (a b w : Rank) → tile_at m.size t a ≡ i → tile_at m.size t b ≡ j → IsBasinMeeting m side t a b w → IsBasinMeeting n side t a b w
+pub meeting_kept : (m n : Map) (side : SideName) (t i j : ℕ) → Keeps m n t i → Keeps m n t j → (a b w : Rank) → tile_at m.size t a ≡ i → tile_at m.size t b ≡ j
+    → IsBasinMeeting m side t a b w → IsBasinMeeting n side t a b w
 meeting_kept m n side t i j k l a b w at bt meet =
     let from : tile_at m.size t meet.from ≡ i = sym (sink-tile m side t meet.from a meet.from_in) ∙ at in
     let to : tile_at m.size t meet.to ≡ j = sym (sink-tile m side t meet.to b meet.to_in) ∙ bt in
@@ -264,7 +282,8 @@ meeting_kept m n side t i j k l a b w at bt meet =
     }
 
 -- and they have one pass
-pub pass_kept : (m n : Map) (side : SideName) (t i j : ℕ) → Keeps m n t i → Keeps m n t j → (a b w : Rank) → tile_at m.size t a ≡ i → tile_at m.size t b ≡ j → IsBasinPass m side t a b w → IsBasinPass n side t a b w
+pub pass_kept : (m n : Map) (side : SideName) (t i j : ℕ) → Keeps m n t i → Keeps m n t j → (a b w : Rank) → tile_at m.size t a ≡ i → tile_at m.size t b ≡ j
+    → IsBasinPass m side t a b w → IsBasinPass n side t a b w
 pass_kept m n side t i j k l a b w at bt pass = record {
   apart = pass.apart;
   meeting = meeting_kept m n side t i j k l a b w at bt pass.meeting;

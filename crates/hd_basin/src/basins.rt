@@ -71,8 +71,10 @@ impl<S: Side> Basins<S> {
         ensures size { IfOk result (λ pool. pool.size ≡ size) }
         ensures side { IfOk result (λ pool. pool.side ≡ side) }
         ensures empty { IfOk result (λ pool. (tile : ℕ) (n : Node) → HasNode pool.parts tile n → ⊥) }
-        ensures unseen { IfOk result (λ pool. (tile : ℕ) (part : Part) → slice_get pool.parts tile ≡ Some part → part.seen ≡ None) }
-        ensures in_step { IfOk result (λ pool. (m : Map) (stamps : List ℕ) → m.size ≡ size → IsInStep m S.NAME stamps pool) }
+        ensures unseen { IfOk result (λ pool. (tile : ℕ) (part : Part)
+            → slice_get pool.parts tile ≡ Some part → part.seen ≡ None) }
+        ensures in_step { IfOk result (λ pool. (m : Map) (stamps : List ℕ) → m.size ≡ size
+            → IsInStep m S.NAME stamps pool) }
     {
         let tiling = Tiling::new(size, side);
         let stock = Stock::new(alloc, tiling.count())?;
@@ -96,13 +98,16 @@ impl<S: Side> Basins<S> {
     ) -> Result<(), Memory>
         requires side { self.old.side ≡ T.tile_side tiles.now }
         requires in_step { IsInStep (T.map tiles.now) S.NAME (T.stamps tiles.now) self.old }
-        requires leave { (p : Pos) → IsBesideStale (T.map tiles.now) (T.stamps tiles.now) self.old p → slice_get (T.leave tiles.now) (place_of (T.map tiles.now).size p) ≡ Some true }
+        requires leave { (p : Pos) → IsBesideStale (T.map tiles.now) (T.stamps tiles.now) self.old p
+            → slice_get (T.leave tiles.now) (place_of (T.map tiles.now).size p) ≡ Some true }
         ensures pool { OnOk result (IsPoolOf (T.map tiles.now) S.NAME self.new) }
         ensures seen { OnOk result (HasSeenAll (T.stamps tiles.now) self.new) }
         ensures in_step { IsInStep (T.map tiles.now) S.NAME (T.stamps tiles.now) self.new }
         ensures kept { OnErr result (KeepsSeen (T.stamps tiles.now) self.old self.new) }
         ensures side { self.new.side ≡ self.old.side }
-        ensures looks { looks.new ≤ looks.old + stale_count (T.stamps tiles.now) self.old.parts * ((self.old.side + 2) * (self.old.side + 2)) }
+        ensures looks { looks.new ≤ looks.old
+            + stale_count (T.stamps tiles.now) self.old.parts *
+            ((self.old.side + 2) * (self.old.side + 2)) }
     {
         'each: for tile in 0..self.tiling.count() {
             self.refresh_tile(tiles, looks, tile)?;
@@ -120,15 +125,22 @@ impl<S: Side> Basins<S> {
         requires side { self.old.side ≡ T.tile_side tiles.now }
         requires in_step { IsInStep (T.map tiles.now) S.NAME (T.stamps tiles.now) self.old }
         requires tile { tile < length self.old.parts }
-        requires leave { (p : Pos) → IsBesideStale (T.map tiles.now) (T.stamps tiles.now) self.old p → slice_get (T.leave tiles.now) (place_of (T.map tiles.now).size p) ≡ Some true }
+        requires leave { (p : Pos) → IsBesideStale (T.map tiles.now) (T.stamps tiles.now) self.old p
+            → slice_get (T.leave tiles.now) (place_of (T.map tiles.now).size p) ≡ Some true }
         ensures fresh { OnOk result (IsFresh (T.stamps tiles.now) self.new.parts tile) }
         ensures sound { IsSound self.new }
         ensures in_step { IsInStep (T.map tiles.now) S.NAME (T.stamps tiles.now) self.new }
         ensures kept { KeepsSeen (T.stamps tiles.now) self.old self.new }
         ensures side { self.new.side ≡ self.old.side }
         ensures whole { length self.new.parts ≡ length self.old.parts }
-        ensures looks { OnOk result (looks.new + stale_count (T.stamps tiles.now) self.new.parts * ((self.old.side + 2) * (self.old.side + 2)) ≤ looks.old + stale_count (T.stamps tiles.now) self.old.parts * ((self.old.side + 2) * (self.old.side + 2))) }
-        ensures in_vain { OnErr result (looks.new ≤ looks.old + stale_count (T.stamps tiles.now) self.old.parts * ((self.old.side + 2) * (self.old.side + 2))) }
+        ensures looks { OnOk result (looks.new
+            + stale_count (T.stamps tiles.now) self.new.parts *
+            ((self.old.side + 2) * (self.old.side + 2)) ≤ looks.old
+            + stale_count (T.stamps tiles.now) self.old.parts *
+            ((self.old.side + 2) * (self.old.side + 2))) }
+        ensures in_vain { OnErr result (looks.new ≤ looks.old
+            + stale_count (T.stamps tiles.now) self.old.parts *
+            ((self.old.side + 2) * (self.old.side + 2))) }
     {
         let seen = self.stock.seen(tile);
         let stamp = tiles.stamp(tile);
@@ -153,8 +165,11 @@ impl<S: Side> Basins<S> {
         requires tile { tile < length self.now.parts }
         requires stamp { slice_get (T.stamps tiles.now) tile ≡ Some stamp }
         requires stale { IsFresh (T.stamps tiles.now) self.now.parts tile → ⊥ }
-        requires leave { (p : Pos) → InGrid self.now.size p → IsRound self.now.size self.now.side tile p → slice_get (T.leave tiles.now) (place_of (T.map tiles.now).size p) ≡ Some true }
-        ensures built { IfOk result (λ part. IsBuilt (T.map tiles.now) S.NAME self.now.side (T.stamps tiles.now) self.now.parts tile part) }
+        requires leave { (p : Pos) → InGrid self.now.size p
+            → IsRound self.now.size self.now.side tile p
+            → slice_get (T.leave tiles.now) (place_of (T.map tiles.now).size p) ≡ Some true }
+        ensures built { IfOk result (λ part. IsBuilt (T.map tiles.now) S.NAME self.now.side
+            (T.stamps tiles.now) self.now.parts tile part) }
         ensures seen { IfOk result (λ part. part.seen ≡ Some stamp) }
         ensures looks { looks.new ≤ looks.old + (self.now.side + 2) * (self.now.side + 2) }
     {
@@ -405,7 +420,8 @@ impl<S: Side> Basins<S> {
     /// next, and the passes between them. The pool is that of a whole map.
     pub fn as_graph(&self) -> Result<Graph<S>, Memory>
         requires { HasMap S.NAME self.now }
-        ensures { IfOk result (λ graph. (m : Map) → IsMap m → IsPoolOf m S.NAME self.now → IsGraphOf m S.NAME self.now.side graph) }
+        ensures { IfOk result (λ graph. (m : Map) → IsMap m → IsPoolOf m S.NAME self.now
+            → IsGraphOf m S.NAME self.now.side graph) }
     {
         let lows = lows_of(self.alloc, &self.stock)?;
         let passes = passes_of::<S>(self.alloc, &self.stock)?;
@@ -416,7 +432,8 @@ impl<S: Side> Basins<S> {
     /// whole map.
     pub fn extents(&self) -> Result<List<Extent>, Memory>
         requires { HasMap S.NAME self.now }
-        ensures { IfOk result (λ extents. (m : Map) → IsMap m → IsPoolOf m S.NAME self.now → AreExtents m S.NAME extents) }
+        ensures { IfOk result (λ extents. (m : Map) → IsMap m → IsPoolOf m S.NAME self.now
+            → AreExtents m S.NAME extents) }
     {
         let roots = self.find_roots()?;
         self.extents_by(&roots)

@@ -19,7 +19,9 @@ pub struct End {
 
 /// The seam between a basin and that of a neighbour, if they are two: at the higher of the two points.
 pub fn seam_between<S: Side>(low: Rank, end: End, at: Rank, near: Rank) -> Option<Seam>
-    ensures { MatchOption result (low ≡ end.low) (λ s. (low ≢ end.low) × (s.pass ≡ pass_between S.NAME low end.low (higher_by S.NAME at near)) × (s.with ≡ end.with) × (s.stamp ≡ end.stamp)) }
+    ensures { MatchOption result (low ≡ end.low) (λ s. (low ≢ end.low)
+        × (s.pass ≡ pass_between S.NAME low end.low (higher_by S.NAME at near))
+        × (s.with ≡ end.with) × (s.stamp ≡ end.stamp)) }
 {
     if low == end.low {
         return None;

@@ -18,7 +18,8 @@ pub fn flows_of<S: Side, G: Heights>(grid: &G, area: Frame, ranks: &[Rank], at: 
     requires columns { area.columns ≤ 256 }
     requires rows { area.rows ≤ 256 }
     requires at { InFrame area at }
-    ensures { MatchOption result (IsPit (G.map grid.now) S.NAME (rank (G.map grid.now) at)) (FlowsTo (G.map grid.now) S.NAME (rank (G.map grid.now) at)) }
+    ensures { MatchOption result (IsPit (G.map grid.now) S.NAME (rank (G.map grid.now) at))
+        (FlowsTo (G.map grid.now) S.NAME (rank (G.map grid.now) at)) }
 {
     let size = grid.size();
     let width = area.columns as usize + 2;

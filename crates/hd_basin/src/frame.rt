@@ -128,7 +128,8 @@ fn stretch_of(limit: u32, side: u32, part: u32) -> Stretch
     ensures some { 1 ≤ result.count }
     ensures from { result.from ≡ part * side - 1 }
     ensures within { result.from + result.count ≤ part * side + side + 1 }
-    ensures after { result.from + result.count ≡ limit ⊎ (part * side + side + 1 ≤ result.from + result.count) }
+    ensures after { result.from + result.count ≡ limit
+        ⊎ (part * side + side + 1 ≤ result.from + result.count) }
 {
     let from = (part * side).saturating_sub(1);
     let to = limit.min(part * side + side + 1);

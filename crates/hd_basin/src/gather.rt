@@ -52,12 +52,17 @@ impl Gathered {
     ) -> Result<(), Memory>
         requires size { plot.tiling.size ≡ (G.map grid.now).size }
         requires area { IsArea (G.map grid.now).size plot.tiling.side plot.tile plot.area }
-        requires ranks { AreRanks (G.map grid.now) S.NAME plot.area ((plot.area.rows + 2) * (plot.area.columns + 2)) ranks.now }
+        requires ranks { AreRanks (G.map grid.now) S.NAME plot.area
+            ((plot.area.rows + 2) * (plot.area.columns + 2)) ranks.now }
         requires whole { OnTrue whole (AreAllPoints S.NAME ranks.now) }
         requires sunk { AreSunk (G.map grid.now) S.NAME plot.tiling.side plot.area sinks.now }
         requires row { row < plot.area.rows }
-        requires before { IsGathered (G.map grid.now) S.NAME plot.tiling.side plot.tile plot.area (row * plot.area.columns) self.old.nodes.items self.old.numbers.items self.old.labels.items }
-        ensures { OnOk result (IsGathered (G.map grid.now) S.NAME plot.tiling.side plot.tile plot.area ((row + 1) * plot.area.columns) self.new.nodes.items self.new.numbers.items self.new.labels.items) }
+        requires before { IsGathered (G.map grid.now) S.NAME plot.tiling.side plot.tile plot.area
+            (row * plot.area.columns) self.old.nodes.items self.old.numbers.items
+            self.old.labels.items }
+        ensures { OnOk result (IsGathered (G.map grid.now) S.NAME plot.tiling.side plot.tile
+            plot.area ((row + 1) * plot.area.columns) self.new.nodes.items self.new.numbers.items
+            self.new.labels.items) }
     {
         let area = plot.area;
         for column in 0..area.columns {
@@ -84,12 +89,18 @@ impl Gathered {
     ) -> Result<(), Memory>
         requires size { plot.tiling.size ≡ (G.map grid.now).size }
         requires area { IsArea (G.map grid.now).size plot.tiling.side plot.tile plot.area }
-        requires ranks { AreRanks (G.map grid.now) S.NAME plot.area ((plot.area.rows + 2) * (plot.area.columns + 2)) ranks.now }
+        requires ranks { AreRanks (G.map grid.now) S.NAME plot.area
+            ((plot.area.rows + 2) * (plot.area.columns + 2)) ranks.now }
         requires whole { OnTrue whole (AreAllPoints S.NAME ranks.now) }
         requires at { InFrame plot.area at }
-        requires sunk { IsSunk (G.map grid.now) S.NAME plot.tiling.side plot.area (place_of_frame plot.area at) sink }
-        requires before { IsGathered (G.map grid.now) S.NAME plot.tiling.side plot.tile plot.area (place_of_frame plot.area at) self.old.nodes.items self.old.numbers.items self.old.labels.items }
-        ensures { OnOk result (IsGathered (G.map grid.now) S.NAME plot.tiling.side plot.tile plot.area (place_of_frame plot.area at + 1) self.new.nodes.items self.new.numbers.items self.new.labels.items) }
+        requires sunk { IsSunk (G.map grid.now) S.NAME plot.tiling.side plot.area
+            (place_of_frame plot.area at) sink }
+        requires before { IsGathered (G.map grid.now) S.NAME plot.tiling.side plot.tile plot.area
+            (place_of_frame plot.area at) self.old.nodes.items self.old.numbers.items
+            self.old.labels.items }
+        ensures { OnOk result (IsGathered (G.map grid.now) S.NAME plot.tiling.side plot.tile
+            plot.area (place_of_frame plot.area at + 1) self.new.nodes.items self.new.numbers.items
+            self.new.labels.items) }
     {
         if sink == NO_LINK {
             self.labels.push(NO_NODE)?;
@@ -112,7 +123,8 @@ impl Gathered {
         whole: bool,
     ) -> Result<u32, Memory>
         requires size { plot.tiling.size ≡ (G.map grid.now).size }
-        requires ranks { AreRanks (G.map grid.now) S.NAME plot.area ((plot.area.rows + 2) * (plot.area.columns + 2)) ranks.now }
+        requires ranks { AreRanks (G.map grid.now) S.NAME plot.area
+            ((plot.area.rows + 2) * (plot.area.columns + 2)) ranks.now }
         requires whole { OnTrue whole (AreAllPoints S.NAME ranks.now) }
         requires columns { plot.area.columns ≤ 256 }
         requires rows { plot.area.rows ≤ 256 }
@@ -125,9 +137,13 @@ impl Gathered {
         requires bottom { plot.area.top + plot.area.rows < 65536 }
         requires inside { home < length self.old.numbers.items }
         requires few { length self.old.nodes.items < 2 ^ 31 }
-        requires known { (j i : ℕ) → slice_get self.old.numbers.items j ≡ Some i → i ≢ no_node → i < length self.old.nodes.items }
+        requires known { (j i : ℕ) → slice_get self.old.numbers.items j ≡ Some i → i ≢ no_node
+            → i < length self.old.nodes.items }
         requires small { (i : ℕ) (n : Node) → slice_get self.old.nodes.items i ≡ Some n → n.points < 2 ^ 31 }
-        ensures counts { IfOk result (λ label. Counts (G.map grid.now) S.NAME plot.tiling.side plot.tile at (at_place plot.area home) self.old.nodes.items self.new.nodes.items self.old.numbers.items self.new.numbers.items label) }
+        ensures counts { IfOk result (λ label. Counts
+            (G.map grid.now) S.NAME plot.tiling.side plot.tile at
+            (at_place plot.area home) self.old.nodes.items self.new.nodes.items
+            self.old.numbers.items self.new.numbers.items label) }
         ensures labels { self.new.labels.items ≡ self.old.labels.items }
     {
         let area = plot.area;
@@ -158,9 +174,12 @@ pub fn gather<S: Side, G: Heights>(
     requires size { plot.tiling.size ≡ (G.map grid.now).size }
     requires tile { plot.tile < tile_count plot.tiling.size plot.tiling.side }
     requires area { IsArea (G.map grid.now).size plot.tiling.side plot.tile plot.area }
-    requires ranks { AreRanks (G.map grid.now) S.NAME plot.area ((plot.area.rows + 2) * (plot.area.columns + 2)) ranks.now }
+    requires ranks { AreRanks (G.map grid.now) S.NAME plot.area
+        ((plot.area.rows + 2) * (plot.area.columns + 2)) ranks.now }
     requires sunk { AreSunk (G.map grid.now) S.NAME plot.tiling.side plot.area sinks.now }
-    ensures { IfOk result (λ all. IsGathered (G.map grid.now) S.NAME plot.tiling.side plot.tile plot.area (plot.area.columns * plot.area.rows) all.nodes.items all.numbers.items all.labels.items) }
+    ensures { IfOk result (λ all. IsGathered (G.map grid.now) S.NAME plot.tiling.side plot.tile
+        plot.area (plot.area.columns * plot.area.rows) all.nodes.items all.numbers.items
+        all.labels.items) }
 {
     let count = (plot.area.columns * plot.area.rows) as usize;
     let mut all = Gathered {
@@ -191,7 +210,8 @@ fn first_node<S: Side, G: Heights>(
     requires rows { area.rows ≤ 256 }
     requires in_frame { InFrame area sink }
     ensures low { result.low ≡ rank (G.map grid.now) sink }
-    ensures flows { MatchOption result.flows (IsPit (G.map grid.now) S.NAME result.low) (FlowsTo (G.map grid.now) S.NAME result.low) }
+    ensures flows { MatchOption result.flows (IsPit (G.map grid.now) S.NAME result.low)
+        (FlowsTo (G.map grid.now) S.NAME result.low) }
     ensures tile { result.tile ≡ tile }
     ensures points { result.points ≡ 1 }
     ensures high { result.high ≡ point.height }

@@ -29,9 +29,11 @@ pub fn passes_inside<S: Side, G: Heights>(
     nodes: &[Node],
 ) -> Result<List<Join>, Memory>
     requires area { IsArea (G.map grid.now).size plot.tiling.side plot.tile plot.area }
-    requires ranks { AreRanks (G.map grid.now) S.NAME plot.area ((plot.area.rows + 2) * (plot.area.columns + 2)) ranks.now }
+    requires ranks { AreRanks (G.map grid.now) S.NAME plot.area
+        ((plot.area.rows + 2) * (plot.area.columns + 2)) ranks.now }
     requires named { AreNamed (G.map grid.now) S.NAME plot.tiling.side plot.area nodes.now labels.now }
-    ensures passes { IfOk result (λ joins. HasPasses (G.map grid.now) S.NAME plot.tiling.side plot.tile (map (pass_named nodes.now) joins)) }
+    ensures passes { IfOk result (λ joins. HasPasses
+        (G.map grid.now) S.NAME plot.tiling.side plot.tile (map (pass_named nodes.now) joins)) }
     ensures named { IfOk result (λ joins. JoinBelow (length nodes.now) joins) }
 {
     let mut meetings = Meetings::new(alloc, nodes.len())?;
@@ -53,11 +55,14 @@ fn meet_row<S: Side, G: Heights>(
     meetings: &mut Meetings,
 ) -> Result<(), Memory>
     requires area { IsArea (G.map grid.now).size plot.tiling.side plot.tile plot.area }
-    requires ranks { AreRanks (G.map grid.now) S.NAME plot.area ((plot.area.rows + 2) * (plot.area.columns + 2)) ranks.now }
+    requires ranks { AreRanks (G.map grid.now) S.NAME plot.area
+        ((plot.area.rows + 2) * (plot.area.columns + 2)) ranks.now }
     requires named { AreNamed (G.map grid.now) S.NAME plot.tiling.side plot.area _nodes.now labels.now }
     requires row { row < plot.area.rows }
-    requires before { AreMet (G.map grid.now) S.NAME plot.area labels.now (length _nodes.now) (row * plot.area.columns) 0 meetings.old.lasts.items meetings.old.list.items }
-    ensures { OnOk result (AreMet (G.map grid.now) S.NAME plot.area labels.now (length _nodes.now) ((row + 1) * plot.area.columns) 0 meetings.new.lasts.items meetings.new.list.items) }
+    requires before { AreMet (G.map grid.now) S.NAME plot.area labels.now (length _nodes.now)
+        (row * plot.area.columns) 0 meetings.old.lasts.items meetings.old.list.items }
+    ensures { OnOk result (AreMet (G.map grid.now) S.NAME plot.area labels.now (length _nodes.now)
+        ((row + 1) * plot.area.columns) 0 meetings.new.lasts.items meetings.new.list.items) }
 {
     for column in 0..plot.area.columns {
         let at = Pos {
@@ -81,11 +86,14 @@ fn meet_point<S: Side, G: Heights>(
     meetings: &mut Meetings,
 ) -> Result<(), Memory>
     requires area { IsArea (G.map grid.now).size plot.tiling.side plot.tile plot.area }
-    requires ranks { AreRanks (G.map grid.now) S.NAME plot.area ((plot.area.rows + 2) * (plot.area.columns + 2)) ranks.now }
+    requires ranks { AreRanks (G.map grid.now) S.NAME plot.area
+        ((plot.area.rows + 2) * (plot.area.columns + 2)) ranks.now }
     requires named { AreNamed (G.map grid.now) S.NAME plot.tiling.side plot.area _nodes.now labels.now }
     requires at { InFrame plot.area at }
-    requires before { AreMet (G.map grid.now) S.NAME plot.area labels.now (length _nodes.now) (place_of_frame plot.area at) 0 meetings.old.lasts.items meetings.old.list.items }
-    ensures { OnOk result (AreMet (G.map grid.now) S.NAME plot.area labels.now (length _nodes.now) (place_of_frame plot.area at + 1) 0 meetings.new.lasts.items meetings.new.list.items) }
+    requires before { AreMet (G.map grid.now) S.NAME plot.area labels.now (length _nodes.now)
+        (place_of_frame plot.area at) 0 meetings.old.lasts.items meetings.old.list.items }
+    ensures { OnOk result (AreMet (G.map grid.now) S.NAME plot.area labels.now (length _nodes.now)
+        (place_of_frame plot.area at + 1) 0 meetings.new.lasts.items meetings.new.list.items) }
 {
     if is_alone(plot.area, labels, at) {
         return Ok(());
@@ -132,12 +140,15 @@ fn meet_step<S: Side, G: Heights>(
     meetings: &mut Meetings,
 ) -> Result<(), Memory>
     requires area { IsArea (G.map grid.now).size plot.tiling.side plot.tile plot.area }
-    requires ranks { AreRanks (G.map grid.now) S.NAME plot.area ((plot.area.rows + 2) * (plot.area.columns + 2)) ranks.now }
+    requires ranks { AreRanks (G.map grid.now) S.NAME plot.area
+        ((plot.area.rows + 2) * (plot.area.columns + 2)) ranks.now }
     requires named { AreNamed (G.map grid.now) S.NAME plot.tiling.side plot.area _nodes.now labels.now }
     requires at { InFrame plot.area at }
     requires step { step < 4 }
-    requires before { AreMet (G.map grid.now) S.NAME plot.area labels.now (length _nodes.now) (place_of_frame plot.area at) step meetings.old.lasts.items meetings.old.list.items }
-    ensures { OnOk result (AreMet (G.map grid.now) S.NAME plot.area labels.now (length _nodes.now) (place_of_frame plot.area at) (step + 1) meetings.new.lasts.items meetings.new.list.items) }
+    requires before { AreMet (G.map grid.now) S.NAME plot.area labels.now (length _nodes.now)
+        (place_of_frame plot.area at) step meetings.old.lasts.items meetings.old.list.items }
+    ensures { OnOk result (AreMet (G.map grid.now) S.NAME plot.area labels.now (length _nodes.now)
+        (place_of_frame plot.area at) (step + 1) meetings.new.lasts.items meetings.new.list.items) }
 {
     let Some(near) = stepped(plot.area, at, step) else {
         return Ok(());
@@ -159,7 +170,8 @@ fn stepped(area: Frame, at: Pos, step: u32) -> Option<Pos>
     requires bottom { area.top + area.rows < 65536 }
     requires at { InFrame area at }
     requires step { step < 4 }
-    ensures { MatchOption result ((q : Pos) → InFrame area q → IsStep at q step → ⊥) (λ q. InFrame area q × IsStep at q step) }
+    ensures { MatchOption result ((q : Pos) → InFrame area q → IsStep at q step → ⊥)
+        (λ q. InFrame area q × IsStep at q step) }
 {
     let right = at.x + step_right(step);
     if right == 0 {
@@ -209,13 +221,15 @@ fn pair_at<S: Side, G: Heights>(
     near: Pos,
 ) -> Option<(u32, u32, Rank)>
     requires area { IsArea (G.map grid.now).size plot.tiling.side plot.tile plot.area }
-    requires ranks { AreRanks (G.map grid.now) S.NAME plot.area ((plot.area.rows + 2) * (plot.area.columns + 2)) ranks.now }
+    requires ranks { AreRanks (G.map grid.now) S.NAME plot.area
+        ((plot.area.rows + 2) * (plot.area.columns + 2)) ranks.now }
     requires named { AreNamed (G.map grid.now) S.NAME plot.tiling.side plot.area _nodes.now labels.now }
     requires count { count ≡ length _nodes.now }
     requires at { InFrame plot.area at }
     requires near { InFrame plot.area near }
     requires step { (step : _) × (step < 4) × IsStep at near step }
-    ensures { MatchOption result ((a b : ℕ) (w : Rank) → IsPairAt (G.map grid.now) S.NAME plot.area labels.now count at near a b w → ⊥)
+    ensures { MatchOption result ((a b : ℕ) (w : Rank)
+        → IsPairAt (G.map grid.now) S.NAME plot.area labels.now count at near a b w → ⊥)
         (λ x. IsPairAt (G.map grid.now) S.NAME plot.area labels.now count at near x.0 x.1 x.2) }
 {
     let a = label_in(plot.area, labels, at);

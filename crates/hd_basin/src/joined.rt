@@ -35,7 +35,8 @@ pub fn joined<S: Side, G: Heights, T: Looked>(
     requires holds { HoldsRound (T.map tiles.now).size tiling.side tile frame }
     requires only { IsRoundOnly (T.map tiles.now).size tiling.side tile frame }
     requires stale { IsFresh (T.stamps tiles.now) parts.now tile → ⊥ }
-    ensures built { IfOk result (λ done. IsBuilt (T.map tiles.now) S.NAME tiling.side (T.stamps tiles.now) parts.now tile done) }
+    ensures built { IfOk result (λ done. IsBuilt (T.map tiles.now) S.NAME tiling.side
+        (T.stamps tiles.now) parts.now tile done) }
     ensures seen { IfOk result (λ done. done.seen ≡ part.seen) }
 {
     let sight = Sight {

@@ -20,7 +20,8 @@ ghost use Rattle.hd_basin.specs.Reading.{IsGraphOf};
 
 /// A pool in step with one map in tiles is in step with each that comes from it.
 pub fn pool_stays_in_step()
-    ensures { (pool : Pool) (side : SideName) (old new : Map) (before after : List ℕ) → length before ≡ length after
+    ensures { (pool : Pool) (side : SideName) (old new : Map) (before after : List ℕ)
+        → length before ≡ length after
         → ComesFrom old pool.side before new pool.side after → IsInStep old side before pool → IsInStep new side after pool }
 {}
 
@@ -34,7 +35,8 @@ pub fn graph_of_basins_tells_the_saddles()
         → (s : Option Rank) → LeastHighestIs (below_by side) net.passes p q s ↔ SaddleIs m side p q s }
     ensures line { (m : Map) (side : SideName) (t : ℕ) (net : Net) (line : List Stop) → IsGraphOf m side t net
         → IsFloodLine (below_by side) net.lows net.passes line → TellsSaddles m side line }
-    ensures merges { (m : Map) (side : SideName) (t : ℕ) (net : Net) (merges : List Merge) → IsGraphOf m side t net
+    ensures merges { (m : Map) (side : SideName) (t : ℕ) (net : Net) (merges : List Merge)
+        → IsGraphOf m side t net
         → AreMerges (below_by side) (LeastHighestIs (below_by side) net.passes) net.lows merges
         → AreMerges (below_by side) (SaddleIs m side) net.lows merges }
 {}

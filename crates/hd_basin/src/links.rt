@@ -30,7 +30,8 @@ pub fn links_in<S: Side, G: Heights, P: Heights>(
     requires part { IsPartOf (G.map grid.now) frame (P.map part.now) }
     requires holds { HoldsRound (G.map grid.now).size plot.tiling.side plot.tile frame }
     requires firsts { AreFirstLinks (P.map part.now) S.NAME firsts.now }
-    ensures { IfOk result (λ links. AreLinksTo (G.map grid.now) S.NAME plot.tiling.side plot.area (plot.area.rows * plot.area.columns) links.items) }
+    ensures { IfOk result (λ links. AreLinksTo (G.map grid.now) S.NAME plot.tiling.side plot.area
+        (plot.area.rows * plot.area.columns) links.items) }
 {
     let count = plot.area.rows * plot.area.columns;
     let mut links = Vec::with_capacity(alloc, count as usize)?;
@@ -56,8 +57,10 @@ fn link_row<S: Side, G: Heights, P: Heights>(
     requires holds { HoldsRound (G.map grid.now).size plot.tiling.side plot.tile frame }
     requires firsts { AreFirstLinks (P.map part.now) S.NAME firsts.now }
     requires row { row < plot.area.rows }
-    requires before { AreLinksTo (G.map grid.now) S.NAME plot.tiling.side plot.area (row * plot.area.columns) links.old.items }
-    ensures { OnOk result (AreLinksTo (G.map grid.now) S.NAME plot.tiling.side plot.area ((row + 1) * plot.area.columns) links.new.items) }
+    requires before { AreLinksTo (G.map grid.now) S.NAME plot.tiling.side plot.area
+        (row * plot.area.columns) links.old.items }
+    ensures { OnOk result (AreLinksTo (G.map grid.now) S.NAME plot.tiling.side plot.area
+        ((row + 1) * plot.area.columns) links.new.items) }
 {
     for column in 0..plot.area.columns {
         let link = link_at::<S, G, P>(grid, part, frame, firsts, plot, row, column);
@@ -84,7 +87,8 @@ fn link_at<S: Side, G: Heights, P: Heights>(
     requires firsts { AreFirstLinks (P.map _part.now) S.NAME firsts.now }
     requires row { row < plot.area.rows }
     requires column { column < plot.area.columns }
-    ensures { IsLink (G.map _grid.now) S.NAME plot.tiling.side plot.area (row * plot.area.columns + column) result }
+    ensures { IsLink (G.map _grid.now) S.NAME plot.tiling.side plot.area
+        (row * plot.area.columns + column) result }
 {
     let area = plot.area;
     let above = area.top + row - frame.top;

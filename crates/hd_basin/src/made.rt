@@ -33,11 +33,16 @@ pub fn made<S: Side, T: Looked, L: Ledger>(
     requires side { tiling.side ≡ T.tile_side tiles.now }
     requires whole { length parts.now ≡ tile_count tiling.size tiling.side }
     requires tile { tile < tile_count tiling.size tiling.side }
-    requires fresh { (p : Pos) → InGrid (T.map tiles.now).size p → IsFresh (T.stamps tiles.now) parts.now (tile_of (T.map tiles.now).size tiling.side p) → IsLabel (T.map tiles.now) S.NAME tiling.side p (label_of (T.map tiles.now).size tiling.side parts.now p) }
+    requires fresh { (p : Pos) → InGrid (T.map tiles.now).size p
+        → IsFresh (T.stamps tiles.now) parts.now (tile_of (T.map tiles.now).size tiling.side p)
+        → IsLabel (T.map tiles.now) S.NAME tiling.side p
+        (label_of (T.map tiles.now).size tiling.side parts.now p) }
     requires stamp { slice_get (T.stamps tiles.now) tile ≡ Some stamp }
     requires stale { IsFresh (T.stamps tiles.now) parts.now tile → ⊥ }
-    requires leave { (p : Pos) → InGrid tiling.size p → IsRound tiling.size tiling.side tile p → slice_get (T.leave tiles.now) (place_of (T.map tiles.now).size p) ≡ Some true }
-    ensures built { IfOk result (λ part. IsBuilt (T.map tiles.now) S.NAME tiling.side (T.stamps tiles.now) parts.now tile part) }
+    requires leave { (p : Pos) → InGrid tiling.size p → IsRound tiling.size tiling.side tile p
+        → slice_get (T.leave tiles.now) (place_of (T.map tiles.now).size p) ≡ Some true }
+    ensures built { IfOk result (λ part. IsBuilt (T.map tiles.now) S.NAME tiling.side
+        (T.stamps tiles.now) parts.now tile part) }
     ensures seen { IfOk result (λ part. part.seen ≡ Some stamp) }
     ensures looks { looks.new ≤ looks.old + (tiling.side + 2) * (tiling.side + 2) }
 {

@@ -85,7 +85,8 @@ impl Meetings {
         requires inside { number < length self.old.list.items }
         ensures chained { AreChained self.new.lasts.items self.new.list.items }
         ensures count { length self.new.lasts.items ≡ length self.old.lasts.items }
-        ensures lowers { (a b : _) → IsKnown a b self.old.list.items number → Notes S.NAME a b at self.old.list.items self.new.list.items }
+        ensures lowers { (a b : _) → IsKnown a b self.old.list.items number
+            → Notes S.NAME a b at self.old.list.items self.new.list.items }
     {
         let mut meeting = self.list[number];
         if !S::below(at, meeting.at) {
@@ -101,7 +102,8 @@ impl Meetings {
         requires inside { a < length self.old.lasts.items }
         ensures chained { OnOk result (AreChained self.new.lasts.items self.new.list.items) }
         ensures count { OnOk result (length self.new.lasts.items ≡ length self.old.lasts.items) }
-        ensures adds { OnOk result ((s : _) → IsUnknown a b self.old.list.items → Notes s a b at self.old.list.items self.new.list.items) }
+        ensures adds { OnOk result ((s : _) → IsUnknown a b self.old.list.items
+            → Notes s a b at self.old.list.items self.new.list.items) }
     {
         let number = self.list.len();
         let before = self.lasts[a as usize];

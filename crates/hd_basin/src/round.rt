@@ -21,7 +21,8 @@ pub fn ranks_round<S: Side, G: Heights>(
     requires fits { FitsGrid (G.map grid.now).size area }
     requires columns { area.columns ≤ 256 }
     requires rows { area.rows ≤ 256 }
-    ensures { IfOk result (λ ranks. AreRanks (G.map grid.now) S.NAME area ((area.rows + 2) * (area.columns + 2)) ranks.items) }
+    ensures { IfOk result (λ ranks. AreRanks (G.map grid.now) S.NAME area
+        ((area.rows + 2) * (area.columns + 2)) ranks.items) }
 {
     let count = (area.rows + 2) * (area.columns + 2);
     let mut ranks = Vec::with_capacity(alloc, count as usize)?;
@@ -42,7 +43,8 @@ fn push_row<S: Side, G: Heights>(
     requires columns { area.columns ≤ 256 }
     requires row { row ≤ 257 }
     requires before { AreRanks (G.map grid.now) S.NAME area (row * (area.columns + 2)) ranks.old.items }
-    ensures { OnOk result (AreRanks (G.map grid.now) S.NAME area ((row + 1) * (area.columns + 2)) ranks.new.items) }
+    ensures { OnOk result (AreRanks (G.map grid.now) S.NAME area
+        ((row + 1) * (area.columns + 2)) ranks.new.items) }
 {
     for column in 0..area.columns + 2 {
         let rank = rank_at::<S, G>(grid, area.left + column, area.top + row);

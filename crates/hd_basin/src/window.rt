@@ -58,7 +58,8 @@ impl Window {
         looks: &mut Steps<L>,
     ) -> Result<Window, Memory>
         requires fits { FitsGrid (T.map tiles.now).size frame }
-        requires allowed { (p : Pos) → InFrame frame p → slice_get (T.leave tiles.now) (place_of (T.map tiles.now).size p) ≡ Some true }
+        requires allowed { (p : Pos) → InFrame frame p
+            → slice_get (T.leave tiles.now) (place_of (T.map tiles.now).size p) ≡ Some true }
         ensures shows { IfOk result (λ w. ShowsFrame (T.map tiles.now) frame (map_of_window w)) }
         ensures framed { IfOk result (λ w. w.frame ≡ frame) }
         ensures counted { looks.new ≤ looks.old + frame.columns * frame.rows }
@@ -110,10 +111,12 @@ fn look_along<T: Looked, L: Ledger>(
     looks: &mut Steps<L>,
 ) -> Result<(), Memory>
     requires fits { FitsGrid (T.map tiles.now).size frame }
-    requires allowed { (p : Pos) → InFrame frame p → slice_get (T.leave tiles.now) (place_of (T.map tiles.now).size p) ≡ Some true }
+    requires allowed { (p : Pos) → InFrame frame p
+        → slice_get (T.leave tiles.now) (place_of (T.map tiles.now).size p) ≡ Some true }
     requires row { row < frame.rows }
     requires before { AreFilled (T.map tiles.now) frame (row * frame.columns) heights.old.items }
-    ensures filled { OnOk result (AreFilled (T.map tiles.now) frame ((row + 1) * frame.columns) heights.new.items) }
+    ensures filled { OnOk result (AreFilled (T.map tiles.now) frame
+        ((row + 1) * frame.columns) heights.new.items) }
     ensures counted { looks.new ≤ looks.old + frame.columns }
 {
     for column in 0..frame.columns {

@@ -99,12 +99,15 @@ written_one m (Some s) (Some (p, h)) (Some (q, i)) hw kw =
     let height : h ≡ i = hw.2 ∙ sym kw.2 in
     ap₂ (λ (r : Pos) (z : ℤ). Some (r, z)) at height
 
-same_parts : (side side' : SideName) (adjacency adjacency' : Adjacency) (from from' to to' : Pos) (saddle saddle' : Option (Pos × ℤ)) (path path' cut cut' : List Pos) → side ≡ side' → adjacency ≡ adjacency' → from ≡ from' → to ≡ to' → saddle ≡ saddle' → path ≡ path' → cut ≡ cut'
-    → ◌≡◌ {A = Certificate} (record { side = side; adjacency = adjacency; from = from; to = to; saddle = saddle; path = path; cut = cut }) (record { side = side'; adjacency = adjacency'; from = from'; to = to'; saddle = saddle'; path = path'; cut = cut' })
+same_parts : (side side' : SideName) (adjacency adjacency' : Adjacency) (from from' to to' : Pos) (saddle saddle' : Option (Pos × ℤ)) (path path' cut cut' : List Pos)
+    → side ≡ side' → adjacency ≡ adjacency' → from ≡ from' → to ≡ to' → saddle ≡ saddle' → path ≡ path' → cut ≡ cut'
+    → ◌≡◌ {A = Certificate} (record { side = side; adjacency = adjacency; from = from; to = to; saddle = saddle; path = path; cut = cut })
+    (record { side = side'; adjacency = adjacency'; from = from'; to = to'; saddle = saddle'; path = path'; cut = cut' })
 same_parts side side' adjacency adjacency' from from' to to' saddle saddle' path path' cut cut' a b c d e f g = cc
 
 -- there is one shown certificate
-pub IsShownCertificate-unique : (m : Map) (side : SideName) (a b : Pos) (saddle : Option Rank) (c d : Certificate) → IsShownCertificate m side a b saddle c → IsShownCertificate m side a b saddle d → c ≡ d
+pub IsShownCertificate-unique : (m : Map) (side : SideName) (a b : Pos) (saddle : Option Rank) (c d : Certificate) → IsShownCertificate m side a b saddle c
+    → IsShownCertificate m side a b saddle d → c ≡ d
 IsShownCertificate-unique m side a b saddle c d h k = same_parts c.side d.side c.adjacency d.adjacency c.from d.from c.to d.to c.saddle d.saddle c.path d.path c.cut d.cut
     (h.side_is ∙ sym k.side_is) (h.setting_is ∙ sym k.setting_is) (h.from_is ∙ sym k.from_is) (h.to_is ∙ sym k.to_is) (written_one m saddle c.saddle d.saddle h.saddle_is k.saddle_is)
     (maybe_path_one m side a b saddle c.path d.path h.path k.path) (cut_at_one m side a b saddle c.cut d.cut h.cut k.cut)

@@ -31,7 +31,8 @@ place_of-first m P round ordered k before r c h =
       | inl less ↦ absurd (before f.0 less (subst P (sym f.2) h))
       | inr more ↦ elim (cases_lt k f.0) [
         | inl less ↦ let up = ordered k f.0 (record { x = 0; y = 0 }) less f.1 in omega (arith, up, e)
-        | inr more' ↦ let same : k ≡ f.0 = omega arith in let e' : place_of m.size (point_of round k) ≡ place_of m.size (point_of round f.0) = ap (λ i. place_of m.size (point_of round i)) same in omega (arith, e, e')
+        | inr more' ↦ let same : k ≡ f.0 = omega arith in let e' : place_of m.size (point_of round k)
+            ≡ place_of m.size (point_of round f.0) = ap (λ i. place_of m.size (point_of round i)) same in omega (arith, e, e')
       ]
     ]
 
@@ -92,14 +93,16 @@ module _ (m : Map) (residues : List Residue) (from to : Pos) (steps : List (Opti
   beside_by_steps : (here q : Pos) (n : ℕ) → IsNearer m steps n here q → IsBesideWith m residues (residue_of_steps n) here q
   beside_by_steps here q n nearer = record { neighbour = nearer.neighbour; noted = leads.read q nearer.neighbour.to.in_grid ∙ ap residue_of nearer.noted }
 
-  first_by_residue : (here next : Pos) (n : ℕ) → steps_at m.size steps here ≡ Some (n + 1) → IsFirst m (IsBesideWith m residues (residue_of_steps n) here) next → IsFirst m (IsNearer m steps n here) next
+  first_by_residue : (here next : Pos) (n : ℕ) → steps_at m.size steps here ≡ Some (n + 1) → IsFirst m (IsBesideWith m residues (residue_of_steps n) here) next
+      → IsFirst m (IsNearer m steps n here) next
   first_by_residue here next n noted first = record {
     kind = nearer_by_residue here next n noted first.kind;
     first = λ r nearer. first.first r (beside_by_steps here r n nearer);
   }
 
   pub IsDown-more : (path : List Pos) (here next : Pos) (gone : ℕ) (residue : Residue) → Present m here → (here ≡ to → ⊥) → residue_after residue ≡ residue_at m.size residues here
-      → ((q : Pos) → IsBesideWith m residues residue here q → IsFirst m (IsBesideWith m residues residue here) next) → IsDown m from steps count path here gone → IsDown m from steps count (path ++ next ∷ []) next (gone + 1)
+      → ((q : Pos) → IsBesideWith m residues residue here q → IsFirst m (IsBesideWith m residues residue here) next) → IsDown m from steps count path here gone
+      → IsDown m from steps count (path ++ next ∷ []) next (gone + 1)
   IsDown-more path here next gone residue present not_end residue_is first d =
       let below = d.below in
       let left : gone + 1 ≤ count = elim (cases_lt gone count) [
@@ -112,7 +115,8 @@ module _ (m : Map) (residues : List Residue) (from to : Pos) (steps : List (Opti
       let of_next : residue ≡ residue_of_steps n = residue_after-same residue (residue_of_steps n) (residue_is ∙ leads.read here present.in_grid ∙ ap residue_of noted ∙ residue_of_steps-more n) in
       let nearer = leads.falls here n (omega (arith, left)) present noted in
       let beside : IsBesideWith m residues residue here nearer.0 = subst (λ (r : Residue). IsBesideWith m residues r here nearer.0) (sym of_next) (beside_by_steps here nearer.0 n nearer.1) in
-      let now : IsFirst m (IsNearer m steps n here) next = first_by_residue here next n noted (subst (λ (r : Residue). IsFirst m (IsBesideWith m residues r here) next) of_next (first nearer.0 beside)) in
+      let now : IsFirst m (IsNearer m steps n here) next = first_by_residue here next n noted
+      (subst (λ (r : Residue). IsFirst m (IsBesideWith m residues r here) next) of_next (first nearer.0 beside)) in
       let more = GoesNearer-more m steps from count gone path here next d.goes d.last now in
       record { below = omega (arith, left); goes = more.0; last = more.1; noted = now.kind.noted }
 

@@ -43,19 +43,22 @@ listed_rank m p ps here all at =
     subst (Contains ps) (same_point m q.0 p (subst (Present m) place.2 (all place.0 place.1)) here q.2) q.1
 
 -- the level of a written saddle
-level_same : (m : Map) (side : SideName) (saddle : Option Rank) (written : Option (Pos × ℤ)) (p : Pos) → IsWritten m saddle written → within side saddle true (rank m p) ≡ true → IsBelowLevel m side (position_only written) p
+level_same : (m : Map) (side : SideName) (saddle : Option Rank) (written : Option (Pos × ℤ)) (p : Pos) → IsWritten m saddle written → within side saddle true (rank m p) ≡ true
+    → IsBelowLevel m side (position_only written) p
 level_same m side None None p w h = tt
 level_same m side (Some s) (Some x) p w h = subst (λ (t : Rank). below_by side (rank m p) t ≡ true) (sym w.1) h
 level_same m side None (Some x) p w h = absurd w
 level_same m side (Some s) None p w h = absurd w
 
-level_back : (m : Map) (side : SideName) (saddle : Option Rank) (written : Option (Pos × ℤ)) (p : Pos) → IsWritten m saddle written → IsBelowLevel m side (position_only written) p → within side saddle true (rank m p) ≡ true
+level_back : (m : Map) (side : SideName) (saddle : Option Rank) (written : Option (Pos × ℤ)) (p : Pos) → IsWritten m saddle written → IsBelowLevel m side (position_only written) p
+    → within side saddle true (rank m p) ≡ true
 level_back m side None None p w h = refl
 level_back m side (Some s) (Some x) p w h = subst (λ (t : Rank). below_by side (rank m p) t ≡ true) w.1 h
 level_back m side None (Some x) p w h = absurd w
 level_back m side (Some s) None p w h = absurd w
 
-module _ (m : Map) (side : SideName) (a b : Pos) (saddle : Option Rank) (written : Option (Pos × ℤ)) (cut : List Pos) (is_written : IsWritten m saddle written) (shown : IsRouteCut m side saddle a cut) where
+module _ (m : Map) (side : SideName) (a b : Pos) (saddle : Option Rank) (written : Option (Pos × ℤ)) (cut : List Pos) (is_written : IsWritten m saddle written)
+    (shown : IsRouteCut m side saddle a cut) where
   joined : (k : ℕ) → k < length cut → IsReachedLow m side saddle a (point_of cut k)
   joined k inside = (shown.all (point_of cut k)).0 (Contains-get_or cut k (record { x = 0; y = 0 }) inside)
 
@@ -91,7 +94,8 @@ Present-route m side a b s path here over (suc j) inside =
     subst (λ (k : ℕ). Present m (point_of path k)) e (over.steps j (omega (arith, inside))).to
 
 -- where a path goes over the saddle, and a cut is the points reached below it, all rules hold
-pub IsRight-path_and_cut : (m : Map) (side : SideName) (a b : Pos) (saddle : Option Rank) (written : Option (Pos × ℤ)) (path cut : List Pos) → Present m a → Present m b → IsPit m side (rank m a) → IsPit m side (rank m b) → (a ≡ b → ⊥)
+pub IsRight-path_and_cut : (m : Map) (side : SideName) (a b : Pos) (saddle : Option Rank) (written : Option (Pos × ℤ)) (path cut : List Pos) → Present m a → Present m b
+    → IsPit m side (rank m a) → IsPit m side (rank m b) → (a ≡ b → ⊥)
     → SaddleIs m side (rank m a) (rank m b) saddle → IsWritten m saddle written → MatchOption saddle (path ≡ []) (λ s. IsRouteOver m side a b s path) → IsRouteCut m side saddle a cut
     → IsRight m (record { side = side; adjacency = m.adjacency; from = a; to = b; saddle = written; path = path; cut = cut })
 IsRight-path_and_cut m side a b None None path cut here there pit pit' apart is w none shown =

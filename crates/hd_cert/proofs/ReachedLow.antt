@@ -80,7 +80,8 @@ module _ (m : Map) (side : SideName) where
             let so = numbered_by lies.present in
             let way = root_reached p so.root.0 (pit_at regions.pits n) lies so.root.1 in
             let to = IsReachedLow-below m side saddle a (pit_at regions.pits n) low.present ((known.each n so.inside).0 flag) in
-            let same : to.0 ≡ way.0 = same_point m to.0 way.0 (IsLow-end m side saddle a (to.2).0 to.0 low (to.2).1).present (IsLow-end m side saddle p (way.2).0 way.0 lies (way.2).1).present (to.1 ∙ sym way.1) in
+            let same : to.0 ≡ way.0 = same_point m to.0 way.0 (IsLow-end m side saddle a (to.2).0 to.0 low (to.2).1).present
+            (IsLow-end m side saddle p (way.2).0 way.0 lies (way.2).1).present (to.1 ∙ sym way.1) in
             IsReachedLow-trans m side saddle a way.0 p (subst (IsReachedLow m side saddle a) same to.2) (IsReachedLow-sym m side saddle p way.0 way.2)
 
 -- the points that are reached, listed in position order, are the cut

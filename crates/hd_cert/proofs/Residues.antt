@@ -59,7 +59,8 @@ residue_of_steps-same k n low high e = elim (cases_lt n k) [
   | inl more ↦ elim (cases_lt (n + 1) k) [
     | inl two ↦
         let is : k ≡ n + 1 + 1 = omega (arith, two, high) in
-        absurd (residue_of_steps-reached n (other_after_two (residue_of_steps n) (ap residue_after (sym (residue_of_steps-more n)) ∙ sym (residue_of_steps-more (n + 1)) ∙ ap residue_of_steps (sym is) ∙ e)))
+        absurd (residue_of_steps-reached n (other_after_two (residue_of_steps n) (ap residue_after (sym (residue_of_steps-more n)) ∙ sym (residue_of_steps-more (n + 1))
+        ∙ ap residue_of_steps (sym is) ∙ e)))
     | inr one ↦
         let is : k ≡ n + 1 = omega (arith, more, one) in
         absurd (residue_of_steps-reached n (other_after (residue_of_steps n) (sym (residue_of_steps-more n) ∙ ap residue_of_steps (sym is) ∙ e)))

@@ -124,7 +124,8 @@ rank-place m [] k d inside = absurd (omega (arith, inside))
 rank-place m (p ∷ ps) zero d inside = refl
 rank-place m (p ∷ ps) (suc k) d inside = rank-place m ps k d (omega (arith, inside))
 
-module _ (m : Map) (side : SideName) (a b : Pos) (saddle : Option Rank) (here : Present m a) (is : SaddleIs m side (rank m a) (rank m b) saddle) (cut : List Pos) (shown : IsRouteCut m side saddle a cut) where
+module _ (m : Map) (side : SideName) (a b : Pos) (saddle : Option Rank) (here : Present m a) (is : SaddleIs m side (rank m a) (rank m b) saddle) (cut : List Pos)
+    (shown : IsRouteCut m side saddle a cut) where
   rises_more : (i j : ℕ) → i < j → j < length cut → place_at m.size cut i < place_at m.size cut j
   rises_more i j less inside =
       let next = shown.rises i (omega (arith, less, inside)) in
@@ -155,7 +156,11 @@ module _ (m : Map) (side : SideName) (a b : Pos) (saddle : Option Rank) (here : 
           let up = rises_more i j less (omega (arith, inside, l)) in
           omega (arith, first, second, up));
     };
-    stand = (Present-all m cut (λ k inside. (let w = (shown.all (point_of cut k)).0 (Contains-get_or cut k (record { x = 0; y = 0 }) inside) in (IsLow-end m side saddle a w.0 (point_of cut k) shown.low w.1).present)), refl);
+    stand = (
+      Present-all m cut (λ k inside. (let w = (shown.all (point_of cut k)).0 (Contains-get_or cut k (record { x = 0; y = 0 }) inside) in
+          (IsLow-end m side saddle a w.0 (point_of cut k) shown.low w.1).present)),
+      refl,
+    );
   }
 
 path_made : (m : Map) (side : SideName) (a b : Pos) (saddle : Option Rank) (path : List Pos) → Present m a → Present m b → SaddleIs m side (rank m a) (rank m b) saddle

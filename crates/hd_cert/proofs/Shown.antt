@@ -49,7 +49,8 @@ module _ (m : Map) (IsOpen : Pos → Type 0) (start : Pos) (goal : Option Pos) (
   AreWanted n = (j : ℕ) → j ≤ n → IsWanted m.size steps goal j
 
   -- the number of a step's end is at least one less
-  step_falls : (p q : Pos) (n : ℕ) (xs : List Pos) → AreWanted (n + 1) → OpenStep m IsOpen p q → Leads (OpenStep m IsOpen) q xs start → length xs ≡ n → steps_at m.size steps p ≡ Some (n + 1) → steps_at m.size steps q ≡ Some n
+  step_falls : (p q : Pos) (n : ℕ) (xs : List Pos) → AreWanted (n + 1) → OpenStep m IsOpen p q → Leads (OpenStep m IsOpen) q xs start → length xs ≡ n
+      → steps_at m.size steps p ≡ Some (n + 1) → steps_at m.size steps q ≡ Some n
   step_falls p q n xs want s l e noted =
       let r = are.least q xs l (want (length xs) (omega (arith, e))) in
       let w = are.reached q s.neighbour.to.in_grid r.0 r.2 in
@@ -63,7 +64,8 @@ module _ (m : Map) (IsOpen : Pos → Type 0) (start : Pos) (goal : Option Pos) (
       let is : r.0 ≡ n = omega (arith, low, high, long, same, e) in
       r.2 ∙ ap Some is
 
-  next_nearer : (p : Pos) (n : ℕ) (xs : List Pos) → AreWanted (n + 1) → steps_at m.size steps p ≡ Some (n + 1) → Leads (OpenStep m IsOpen) p xs start → length xs ≡ n + 1 → (q : Pos) × IsNearer m steps n p q
+  next_nearer : (p : Pos) (n : ℕ) (xs : List Pos) → AreWanted (n + 1) → steps_at m.size steps p ≡ Some (n + 1) → Leads (OpenStep m IsOpen) p xs start → length xs ≡ n + 1
+      → (q : Pos) × IsNearer m steps n p q
   next_nearer p n [] want noted l e = absurd (omega (arith, e))
   next_nearer p n (q ∷ xs) want noted l e = (q, record { neighbour = l.0.neighbour; noted = step_falls p q n xs want l.0 l.1 (omega (arith, e)) noted })
 
@@ -123,7 +125,8 @@ module _ (m : Map) (IsOpen : Pos → Type 0) (start : Pos) (goal : Option Pos) (
       ]
 
 -- no listed rank is above
-pub NoneAbove-at : (m : Map) (side : SideName) (t : Rank) (ps : List Pos) → NoneAbove (below_by side) t (map (rank m) ps) → (k : ℕ) → k < length ps → IsNotAbove (below_by side) (rank m (point_of ps k)) t
+pub NoneAbove-at : (m : Map) (side : SideName) (t : Rank) (ps : List Pos) → NoneAbove (below_by side) t (map (rank m) ps) → (k : ℕ) → k < length ps
+    → IsNotAbove (below_by side) (rank m (point_of ps k)) t
 NoneAbove-at m side t ps n k inside =
     let first : Pos = record { x = 0; y = 0 } in
     let read : get_or (map (rank m) ps) k (rank m first) ≡ rank m (point_of ps k) = get_or-map (rank m) ps k first (rank m first) inside in
@@ -194,7 +197,8 @@ module _ (m : Map) (side : SideName) (s : Rank) (a b : Pos) (steps : List (Optio
       ]
 
   -- its steps lead down to the second
-  pub LeadsDown-goes_nearer : (residues : List Residue) (count : ℕ) → ((p : Pos) → InGrid m.size p → residue_at m.size residues p ≡ residue_of (steps_at m.size steps p)) → steps_at m.size steps a ≡ Some count → LeadsDown m residues a b steps count
+  pub LeadsDown-goes_nearer : (residues : List Residue) (count : ℕ) → ((p : Pos) → InGrid m.size p → residue_at m.size residues p ≡ residue_of (steps_at m.size steps p))
+      → steps_at m.size steps a ≡ Some count → LeadsDown m residues a b steps count
   LeadsDown-goes_nearer residues count read noted = record {
     read = read;
     noted = noted;
@@ -202,7 +206,8 @@ module _ (m : Map) (side : SideName) (s : Rank) (a b : Pos) (steps : List (Optio
     begun = (let r = are.least b [] refl (λ k e. omega arith) in let none = r.1 in let zero' : r.0 ≡ 0 = omega (arith, none) in r.2 ∙ ap Some zero');
     ends = noted_zero m (NotAbove m side s) b (Some a) steps are;
     close = are.close;
-    falls = λ p n less there' noted'. IsNearer-exists m (NotAbove m side s) b (Some a) steps are p n (λ j le k e. (let same = Some-unique (steps_at m.size steps a) count k noted e in omega (arith, le, less, same))) there' noted';
+    falls = λ p n less there' noted'. IsNearer-exists m (NotAbove m side s) b (Some a) steps are p n
+        (λ j le k e. (let same = Some-unique (steps_at m.size steps a) count k noted e in omega (arith, le, less, same))) there' noted';
   }
 
   module _ (path : List Pos) (count : ℕ) (noted : steps_at m.size steps a ≡ Some count) (goes : GoesNearer m steps a count path count) where
@@ -256,11 +261,13 @@ module _ (m : Map) (side : SideName) (s : Rank) (a b : Pos) (steps : List (Optio
       let short : length ps ≡ count = omega (arith, long) in
       let same : length (a ∷ w.0) ≡ length (p ∷ ps) = ap length (sym w.1) ∙ e in
       let same' : length w.0 ≡ length ps = omega (arith, same) in
-      let takes : Takes m (NotAbove m side s) b (Some a) steps are p ps = takes_of m (NotAbove m side s) b (Some a) steps are p ps (λ k inside. subst (λ (n : ℕ). IsFirst m (IsNearer m steps (n - (k + 1)) (point_of (p ∷ ps) k)) (point_of (p ∷ ps) (k + 1))) (sym short)
+      let takes : Takes m (NotAbove m side s) b (Some a) steps are p ps = takes_of m (NotAbove m side s) b (Some a) steps are p ps
+      (λ k inside. subst (λ (n : ℕ). IsFirst m (IsNearer m steps (n - (k + 1)) (point_of (p ∷ ps) k)) (point_of (p ∷ ps) (k + 1))) (sym short)
       (goes.nearer k (omega (arith, inside, short)))) in
       let noted' : steps_at m.size steps p ≡ Some (length ps) = ap (steps_at m.size steps) begins ∙ noted ∙ ap Some (sym short) in
       let leads : Leads (OpenStep m (NotAbove m side s)) p w.0 b = subst (λ (q : Pos). Leads (OpenStep m (NotAbove m side s)) q w.0 b) (sym begins) w.2 in
-      let first = not_after m (NotAbove m side s) b (Some a) steps are p ps w.0 (λ j le k e. (let eq = Some-unique (steps_at m.size steps a) count k noted e in omega (arith, le, eq, short))) takes noted' leads same' in
+      let first = not_after m (NotAbove m side s) b (Some a) steps are p ps w.0 (λ j le k e.
+      (let eq = Some-unique (steps_at m.size steps a) count k noted e in omega (arith, le, eq, short))) takes noted' leads same' in
       subst (λ (qs : List Pos). IsNotAfter (map (place_of m.size) (p ∷ ps)) (map (place_of m.size) qs)) (sym w.1) (inr (ap (place_of m.size) begins, first))
 
   pub IsShownRoute-path : (path : List Pos) (count : ℕ) → steps_at m.size steps a ≡ Some count → GoesNearer m steps a count path count → IsShownRoute m side a b s path

@@ -10,10 +10,12 @@ ghost use Rattle.hd_cert.specs.Shown.{AreTwoPits, IsShownCertificate};
 
 /// Two pits and their saddle have one shown certificate at most.
 pub fn shown_certificate_is_determined()
-    ensures { (m : Map) (side : SideName) (a b : Pos) (saddle : Option Rank) (c d : Certificate) → IsShownCertificate m side a b saddle c → IsShownCertificate m side a b saddle d → c ≡ d }
+    ensures { (m : Map) (side : SideName) (a b : Pos) (saddle : Option Rank) (c d : Certificate)
+        → IsShownCertificate m side a b saddle c → IsShownCertificate m side a b saddle d → c ≡ d }
 {}
 
 /// The certificate that is shown of two different pits and their saddle is right.
 pub fn shown_certificate_is_right()
-    ensures { (m : Map) (side : SideName) (a b : Pos) (saddle : Option Rank) (c : Certificate) → AreTwoPits m side a b → IsShownCertificate m side a b saddle c → IsRight m c }
+    ensures { (m : Map) (side : SideName) (a b : Pos) (saddle : Option Rank) (c : Certificate)
+        → AreTwoPits m side a b → IsShownCertificate m side a b saddle c → IsRight m c }
 {}

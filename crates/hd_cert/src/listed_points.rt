@@ -29,7 +29,8 @@ fn list_one(size: Size, residues: &[Residue], at: Pos, found: &mut Vec<Pos>) -> 
     requires limits { IsSize size }
     requires whole { length residues.now ≡ cell_count size }
     requires at { InGrid size at }
-    ensures { OnOk result (Lists size (IsReached size residues.now) (place_of size at) found.old.items found.new.items) }
+    ensures { OnOk result (Lists size (IsReached size residues.now)
+        (place_of size at) found.old.items found.new.items) }
 {
     if residues[index_of(size, at) as usize] == Residue::Unreached {
         return Ok(());

@@ -36,7 +36,8 @@ pub fn certify<S: Side, G: Heights>(
     saddle: Option<Rank>,
 ) -> Result<Certificate, Memory>
     requires pits { AreTwoPits (G.map grid.now) S.NAME from to }
-    requires saddle { SaddleIs (G.map grid.now) S.NAME (rank (G.map grid.now) from) (rank (G.map grid.now) to) saddle }
+    requires saddle { SaddleIs (G.map grid.now) S.NAME (rank (G.map grid.now) from)
+        (rank (G.map grid.now) to) saddle }
     ensures shown { IfOk result (IsShownCertificate (G.map grid.now) S.NAME from to saddle) }
     ensures right { IfOk result (IsRight (G.map grid.now)) }
 {
@@ -57,9 +58,11 @@ pub fn certify_by_regions<S: Side, G: Heights>(
     saddle: Option<Rank>,
 ) -> Result<Certificate, Memory>
     requires regions { AreNumbered (G.map grid.now) S.NAME regions.now }
-    requires reached { AreReachedPits (G.map grid.now) S.NAME saddle (rank (G.map grid.now) from) regions.now.pits reached.now }
+    requires reached { AreReachedPits (G.map grid.now) S.NAME saddle
+        (rank (G.map grid.now) from) regions.now.pits reached.now }
     requires pits { AreTwoPits (G.map grid.now) S.NAME from to }
-    requires saddle { SaddleIs (G.map grid.now) S.NAME (rank (G.map grid.now) from) (rank (G.map grid.now) to) saddle }
+    requires saddle { SaddleIs (G.map grid.now) S.NAME (rank (G.map grid.now) from)
+        (rank (G.map grid.now) to) saddle }
     ensures shown { IfOk result (IsShownCertificate (G.map grid.now) S.NAME from to saddle) }
     ensures right { IfOk result (IsRight (G.map grid.now)) }
 {
@@ -77,7 +80,8 @@ fn make<S: Side, G: Heights>(
     cut: List<Pos>,
 ) -> Result<Certificate, Memory>
     requires pits { AreTwoPits (G.map grid.now) S.NAME from to }
-    requires saddle { SaddleIs (G.map grid.now) S.NAME (rank (G.map grid.now) from) (rank (G.map grid.now) to) saddle }
+    requires saddle { SaddleIs (G.map grid.now) S.NAME (rank (G.map grid.now) from)
+        (rank (G.map grid.now) to) saddle }
     requires cut { IsRouteCut (G.map grid.now) S.NAME saddle from cut }
     ensures { IfOk result (IsMade (G.map grid.now) S.NAME from to saddle) }
 {
@@ -116,7 +120,8 @@ fn shown_path<S: Side, G: Heights>(
 ) -> Result<List<Pos>, Memory>
     requires here { Present (G.map grid.now) from }
     requires there { Present (G.map grid.now) to }
-    requires saddle { IsSaddle (G.map grid.now) S.NAME (rank (G.map grid.now) from) (rank (G.map grid.now) to) saddle }
+    requires saddle { IsSaddle (G.map grid.now) S.NAME (rank (G.map grid.now) from)
+        (rank (G.map grid.now) to) saddle }
     ensures { IfOk result (IsShownRoute (G.map grid.now) S.NAME from to saddle) }
 {
     let bound = Bound {

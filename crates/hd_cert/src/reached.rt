@@ -21,7 +21,8 @@ pub fn residues_from<S: Side, G: Heights>(
     goal: Option<Pos>,
 ) -> Result<Vec<Residue>, Memory>
     requires { LiesWithin (G.map grid.now) S.NAME bound.level bound.strict start }
-    ensures { IfOk result (λ residues. AreResidues (G.map grid.now) (LiesWithin (G.map grid.now) S.NAME bound.level bound.strict) start goal residues.items) }
+    ensures { IfOk result (λ residues. AreResidues (G.map grid.now)
+        (LiesWithin (G.map grid.now) S.NAME bound.level bound.strict) start goal residues.items) }
 {
     let size = grid.size();
     let count = size.profiles * size.points;

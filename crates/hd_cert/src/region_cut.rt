@@ -25,7 +25,8 @@ pub fn region_cut<S: Side, G: Heights>(
     saddle: Option<Rank>,
 ) -> Result<List<Pos>, Memory>
     requires regions { AreNumbered (G.map grid.now) S.NAME regions.now }
-    requires reached { AreReachedPits (G.map grid.now) S.NAME saddle (rank (G.map grid.now) from) regions.now.pits reached.now }
+    requires reached { AreReachedPits (G.map grid.now) S.NAME saddle
+        (rank (G.map grid.now) from) regions.now.pits reached.now }
     requires low { LiesWithin (G.map grid.now) S.NAME saddle true from }
     ensures { IfOk result (IsRouteCut (G.map grid.now) S.NAME saddle from) }
 {
@@ -50,10 +51,13 @@ fn list_reached<S: Side, G: Heights>(
     cut: &mut Vec<Pos>,
 ) -> Result<(), Memory>
     requires regions { AreNumbered (G.map grid.now) S.NAME regions.now }
-    requires reached { AreReachedPits (G.map grid.now) S.NAME saddle (rank (G.map grid.now) from) regions.now.pits reached.now }
+    requires reached { AreReachedPits (G.map grid.now) S.NAME saddle
+        (rank (G.map grid.now) from) regions.now.pits reached.now }
     requires low { LiesWithin (G.map grid.now) S.NAME saddle true from }
     requires at { InGrid (G.map grid.now).size at }
-    ensures { OnOk result (Lists (G.map grid.now).size (IsReachedLow (G.map grid.now) S.NAME saddle from) (place_of (G.map grid.now).size at) cut.old.items cut.new.items) }
+    ensures { OnOk result (Lists (G.map grid.now).size
+        (IsReachedLow (G.map grid.now) S.NAME saddle from)
+        (place_of (G.map grid.now).size at) cut.old.items cut.new.items) }
 {
     if is_reached::<S, G>(grid, regions, reached, from, saddle, at) {
         cut.push(at)?;
@@ -72,7 +76,8 @@ fn is_reached<S: Side, G: Heights>(
     at: Pos,
 ) -> bool
     requires regions { AreNumbered (G.map grid.now) S.NAME regions.now }
-    requires reached { AreReachedPits (G.map grid.now) S.NAME saddle (rank (G.map grid.now) from) regions.now.pits reached.now }
+    requires reached { AreReachedPits (G.map grid.now) S.NAME saddle
+        (rank (G.map grid.now) from) regions.now.pits reached.now }
     requires low { LiesWithin (G.map grid.now) S.NAME saddle true from }
     requires at { InGrid (G.map grid.now).size at }
     ensures { IsTrue result ↔ IsReachedLow (G.map grid.now) S.NAME saddle from at }

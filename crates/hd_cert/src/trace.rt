@@ -20,7 +20,9 @@ pub fn path_down<G: Heights>(
 ) -> Result<List<Pos>, Memory>
     requires whole { length residues.now ≡ cell_count (G.map grid.now).size }
     requires from { Present (G.map grid.now) from }
-    ensures { IfOk result (λ path. (steps : Items (Option ℕ)) (count : ℕ) → LeadsDown (G.map grid.now) residues.now from to steps count → GoesNearer (G.map grid.now) steps from count path count) }
+    ensures { IfOk result (λ path. (steps : Items (Option ℕ)) (count : ℕ)
+        → LeadsDown (G.map grid.now) residues.now from to steps count
+        → GoesNearer (G.map grid.now) steps from count path count) }
 {
     let size = grid.size();
     let mut path = vec![in alloc; from]?;
@@ -47,7 +49,8 @@ fn first_beside<G: Heights>(
     requires whole { length residues.now ≡ cell_count (G.map grid.now).size }
     requires at { Present (G.map grid.now) at }
     ensures present { Present (G.map grid.now) result }
-    ensures first { (q : Pos) → IsBesideWith (G.map grid.now) residues.now residue at q → IsFirst (G.map grid.now) (IsBesideWith (G.map grid.now) residues.now residue at) result }
+    ensures first { (q : Pos) → IsBesideWith (G.map grid.now) residues.now residue at q
+        → IsFirst (G.map grid.now) (IsBesideWith (G.map grid.now) residues.now residue at) result }
 {
     let near = neighbours(alloc, grid, at);
     let size = grid.size();

@@ -48,6 +48,8 @@ module _ {A : Type 0} (words : A → List (List ℕ)) where
   lines_map (x ∷ xs) = ap (λ (t : List ℕ). line_text (words x) ++ t) (lines_map xs)
 
   -- after the line of a key and their number
-  pub line_text-counted : (key number : List ℕ) (xs : List A) → (key ++ 32 ∷ (number ++ 10 ∷ [])) ++ flat_map line_text (map words xs) ≡ key ++ 32 ∷ (number ++ 10 ∷ flat_map (λ (x : A). line_text (words x)) xs)
+  pub line_text-counted : (key number : List ℕ) (xs : List A) → (key ++ 32 ∷ (number ++ 10 ∷ [])) ++ flat_map line_text (map words xs) ≡ key ++ 32
+      ∷ (number ++ 10 ∷ flat_map (λ (x : A). line_text (words x)) xs)
   line_text-counted key number xs = ap (λ (t : List ℕ). (key ++ 32 ∷ (number ++ 10 ∷ [])) ++ t) (lines_map xs)
-      ∙ append_assoc key (32 ∷ (number ++ 10 ∷ [])) (flat_map (λ (x : A). line_text (words x)) xs) ∙ ap (λ (t : List ℕ). key ++ 32 ∷ t) (append_assoc number (10 ∷ []) (flat_map (λ (x : A). line_text (words x)) xs))
+      ∙ append_assoc key (32 ∷ (number ++ 10 ∷ [])) (flat_map (λ (x : A). line_text (words x)) xs)
+      ∙ ap (λ (t : List ℕ). key ++ 32 ∷ t) (append_assoc number (10 ∷ []) (flat_map (λ (x : A). line_text (words x)) xs))

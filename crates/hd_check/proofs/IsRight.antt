@@ -57,7 +57,8 @@ out_of_cut m cut p here out h = h.listed (λ c. out (subst (Contains cut) (same_
 
 -- where all rules hold on a map, the saddle is that of its two pits
 right_at : (m : Map) (side : SideName) (adjacency : Adjacency) (from to : Pos) (saddle : Option (Pos × ℤ)) (path cut : List Pos)
-    → TriedFrom 1 (all_rules m (record { side = side; adjacency = adjacency; from = from; to = to; saddle = saddle; path = path; cut = cut })) Yes → SaddleIs m side (rank m from) (rank m to) (written_rank m saddle)
+    → TriedFrom 1 (all_rules m (record { side = side; adjacency = adjacency; from = from; to = to; saddle = saddle; path = path; cut = cut })) Yes
+    → SaddleIs m side (rank m from) (rank m to) (written_rank m saddle)
 right_at m side adjacency from to None path cut (present, (pits, (height, (ends, (steps, (on, (low, (rises, (parts, (cut_low, (closed, _))))))))))) = λ xs p.
     out_of_cut m cut to present.1.0 parts.1 (Leads-closed (Near m) (IsInCut m cut) (λ x y h n. cut_step m side None cut closed x y h n (λ q e. tt)) (rank m from) (rank m to) xs p.leads
     (in_cut m cut from present.0 parts.0))

@@ -42,7 +42,8 @@ ArePlaces-later s cut index more places le p = record {
 }
 
 -- the first place from the index on of the position to the left is behind it
-pub IsBehind-left : (s t : Size) (cut : List Pos) (at : Pos) (step left index place : ℕ) → s ≡ t → left ≡ at.x - 1 → index ≡ place_of s (record { x = left; y = at.y + step - 1 }) → IsFirstFrom s cut index place
+pub IsBehind-left : (s t : Size) (cut : List Pos) (at : Pos) (step left index place : ℕ) → s ≡ t → left ≡ at.x - 1 → index ≡ place_of s (record { x = left; y = at.y + step - 1 })
+    → IsFirstFrom s cut index place
     → IsBehind t cut (left_index t at step) place
 IsBehind-left s t cut at step left index place size is_left is f =
     subst (λ (z : Size). IsBehind z cut (left_index z at step) place) size (subst (λ i. IsBehind s cut i place) (is ∙ ap (λ l. place_of s (record { x = l; y = at.y + step - 1 })) is_left) f.behind)
@@ -58,7 +59,8 @@ IsFirstFrom-after s cut index more next step up inside e = record {
 }
 
 -- where the point at the place is another, the place is the first from the next index on
-pub IsFirstFrom-stays : (s : Size) (cut : List Pos) (index more next : ℕ) → index + 1 ≡ more → (next < length cut → place_at s cut next ≡ index → ⊥) → IsFirstFrom s cut index next → IsFirstFrom s cut more next
+pub IsFirstFrom-stays : (s : Size) (cut : List Pos) (index more next : ℕ) → index + 1 ≡ more → (next < length cut → place_at s cut next ≡ index → ⊥) → IsFirstFrom s cut index next
+    → IsFirstFrom s cut more next
 IsFirstFrom-stays s cut index more next step other f = record {
   behind = IsBehind-more s cut index more next (omega (arith, step)) f.behind;
   reached = λ h. let le = f.reached h in let ne = other h in elim (cases_lt index (place_at s cut next)) [
@@ -126,7 +128,8 @@ module _ (m : Map) (side : SideName) (level : Option Pos) (cut : List Pos) (at :
   FirstLeak-beside a (Some q) above clear first some =
       first_of_rows q 1 first (λ r less leak. let near = leak.neighbour.rows in none_found 0 a above clear r (omega (arith, less, near)) leak)
 
-  pub FirstLeak-below : (a b o : Option Pos) → FirstLeakIn m side level cut at 0 a → is_some a ≡ false → FirstLeakIn m side level cut at 1 b → is_some b ≡ false → FirstLeakIn m side level cut at 2 o → FirstLeak m side level cut at o
+  pub FirstLeak-below : (a b o : Option Pos) → FirstLeakIn m side level cut at 0 a → is_some a ≡ false → FirstLeakIn m side level cut at 1 b → is_some b ≡ false
+      → FirstLeakIn m side level cut at 2 o → FirstLeak m side level cut at o
   FirstLeak-below a b None above clear beside clear' first = λ r leak. let near = leak.neighbour.rows in elim (cases_lt (r.y + 1) (at.y + 1)) [
     | inl less ↦ none_found 0 a above clear r (omega (arith, less, near)) leak
     | inr not ↦ elim (cases_lt (at.y + 1) (r.y + 1)) [
@@ -140,7 +143,8 @@ module _ (m : Map) (side : SideName) (level : Option Pos) (cut : List Pos) (at :
   ])
 
   -- a position that is open and not in the cut is a leak
-  pub IsLeak-open : (q : Pos) → Contains cut at → Present m at → AreBesideUnder m.adjacency at q × Present m q × IsBelowLevel m side level q → at.x ≤ q.x + 1 → q.x ≤ at.x + 1 → at.y ≤ q.y + 1 → q.y ≤ at.y + 1
+  pub IsLeak-open : (q : Pos) → Contains cut at → Present m at → AreBesideUnder m.adjacency at q × Present m q × IsBelowLevel m side level q → at.x ≤ q.x + 1 → q.x ≤ at.x + 1
+      → at.y ≤ q.y + 1 → q.y ≤ at.y + 1
       → (Contains cut q → ⊥) → IsLeak m side level cut at q
   IsLeak-open q inside here there c c' r r' out = record {
     neighbour = record { from = here; to = there.1; columns = (c, c'); rows = (r, r'); different = λ e. out (subst (Contains cut) e inside); beside = there.0 };

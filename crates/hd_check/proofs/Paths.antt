@@ -28,4 +28,5 @@ Leads-path m p (q ∷ ps) h =
 pub NoneAbove-listed : (m : Map) (side : SideName) (s : Rank) (ps : List Pos) → ((k : ℕ) → k < length ps → IsNotAbove (below_by side) (rank m (point_of ps k)) s)
     → NoneAbove (below_by side) s (map (rank m) ps)
 NoneAbove-listed m side s [] h = All-nil (λ x. IsNotAbove (below_by side) x s)
-NoneAbove-listed m side s (q ∷ ps) h = All-cons (λ x. IsNotAbove (below_by side) x s) (rank m q) (map (rank m) ps) (h 0 (omega arith)) (NoneAbove-listed m side s ps (λ k inside. h (suc k) (omega (arith, inside))))
+NoneAbove-listed m side s (q ∷ ps) h = All-cons (λ x. IsNotAbove (below_by side) x s) (rank m q) (map (rank m) ps) (h 0 (omega arith))
+    (NoneAbove-listed m side s ps (λ k inside. h (suc k) (omega (arith, inside))))

@@ -1,5 +1,6 @@
 -- The text of a certificate is read as this certificate.
-use Rattle.std.proofs.Common.{◌≡◌, ◌<◌, ◌+◌, ◌^◌, ◌||◌, ℕ, ℤ, pos, negsuc, suc, Bool, true, false, not, List, [], ◌∷◌, ◌++◌, length, map, Option, Some, None, Ok, refl, sym, ap, ap₂, ◌∙◌, append_assoc, arith, if◌then◌else◌}
+use Rattle.std.proofs.Common.{◌≡◌, ◌<◌, ◌+◌, ◌^◌, ◌||◌, ℕ, ℤ, pos, negsuc, suc, Bool, true, false, not, List, [], ◌∷◌, ◌++◌, length, map, Option, Some}
+use Rattle.std.proofs.Common.{None, Ok, refl, sym, ap, ap₂, ◌∙◌, append_assoc, arith, if◌then◌else◌}
 use Rattle.std.specs.Prelude.{All, codes, decimal, filter}
 use Rattle.std.specs.Char.{is_ascii_digit}
 use Rattle.std.specs.Fmt.{signed_decimal}
@@ -161,7 +162,8 @@ point_clear : (p : Pos) → IsWritablePoint p → AreWords (point_words p)
 point_clear p fits = let x = fits.column in let y = fits.profile in (IsWord-decimal p.x (omega arith), (IsWord-decimal p.y (omega arith), tt))
 
 -- lines of items are lines of words
-pub AreLines-items : {A : Type 0} (words : A → List (List ℕ)) (Is : A → Type 0) → ((x : A) → Is x → AreLines (words x ∷ [])) → (xs : List A) → All Is xs → (rest : List (List (List ℕ))) → AreLines rest → AreLines (map words xs ++ rest)
+pub AreLines-items : {A : Type 0} (words : A → List (List ℕ)) (Is : A → Type 0) → ((x : A) → Is x → AreLines (words x ∷ [])) → (xs : List A) → All Is xs
+    → (rest : List (List (List ℕ))) → AreLines rest → AreLines (map words xs ++ rest)
 AreLines-items words Is clear [] all rest are = are
 AreLines-items words Is clear (x ∷ xs) all rest are = more_lines (words x) (clear x (All-head Is x xs all)) (AreLines-items words Is clear xs (All-tail Is x xs all) rest are)
   where
@@ -217,7 +219,8 @@ cut_part cut = (codes "cut" ∷ decimal (length cut) ∷ []) ∷ (map point_word
 cut_clear : (cut : List Pos) → AreWritable cut → AreLines (cut_part cut)
 cut_clear cut are = (AreWords-number (codes "cut") (length cut) word_cut are.few, points_clear cut are.each ((codes "end" ∷ []) ∷ []) ((IsWord-end, tt), tt))
 
-saddle_clear : (saddle : Option (Pos × ℤ)) (path : List Pos) → IsWritableSaddle saddle path → AreWritable path → (rest : List (List (List ℕ))) → AreLines rest → AreLines (saddle_lines saddle path ++ rest)
+saddle_clear : (saddle : Option (Pos × ℤ)) (path : List Pos) → IsWritableSaddle saddle path → AreWritable path → (rest : List (List (List ℕ))) → AreLines rest
+    → AreLines (saddle_lines saddle path ++ rest)
 saddle_clear (Some s) path is are rest more =
     let x = is.0.column in
     let y = is.0.profile in (
@@ -240,12 +243,14 @@ abbrev pub numbered-from_line : ℕ → List (List (List ℕ)) → Lines
 numbered-from_line number lines = record { number = number; lines = lines }
 
 module _ {A : Type 0} (words : A → List (List ℕ)) (form : List (List ℕ) → Option A) (Is : A → Type 0) (back : (x : A) → Is x → form (words x) ≡ Some x) where
-  items_back : (xs : List A) (number : ℕ) (rest : List (List (List ℕ))) → All Is xs → (n : ℕ) × (items_in form (length xs) (numbered-from_line number (map words xs ++ rest)) ≡ Ok (xs, numbered-from_line n rest))
+  items_back : (xs : List A) (number : ℕ) (rest : List (List (List ℕ))) → All Is xs → (n : ℕ)
+      × (items_in form (length xs) (numbered-from_line number (map words xs ++ rest)) ≡ Ok (xs, numbered-from_line n rest))
   items_back [] number rest all = (number, refl)
   items_back (x ∷ xs) number rest all =
       let more = items_back xs (number + 1) rest (All-tail Is x xs all) in (
         more.0,
-        ap (λ (o : Option A). and_then (line_gives number (map words xs ++ rest) o) (λ y left. and_then (items_in form (length xs) left) (λ ys left. Ok (y ∷ ys, left)))) (back x (All-head Is x xs all))
+        ap (λ (o : Option A). and_then (line_gives number (map words xs ++ rest) o) (λ y left. and_then (items_in form (length xs) left) (λ ys left. Ok (y ∷ ys, left))))
+            (back x (All-head Is x xs all))
             ∙ ap (λ (r : Read (List A)). and_then r (λ ys left. Ok (x ∷ ys, left))) more.1,
       )
 
@@ -268,14 +273,16 @@ path_back : (head : CertificateHead) (from to : Pos) (saddle : Option (Pos × �
 path_back head from to (Some s) path number rest is are =
     let more = count_form-counted point_words point_form IsWritablePoint point_back (codes "path") refl path (number + 1) rest are.few are.each in (
       more.0,
-      ap (λ (o : Option (Option (Pos × ℤ))). and_then (line_gives number ((codes "path" ∷ decimal (length path) ∷ []) ∷ (map point_words path ++ rest)) o) (after_saddle head from to)) (saddle_back s is.0 is.1)
+      ap (λ (o : Option (Option (Pos × ℤ))). and_then (line_gives number ((codes "path" ∷ decimal (length path) ∷ []) ∷ (map point_words path ++ rest)) o)
+          (after_saddle head from to)) (saddle_back s is.0 is.1)
           ∙ ap (λ (r : Read (List Pos)). and_then r (after_path head from to (Some s))) more.1,
     )
 path_back head from to None path number rest is are = (number + 1, ap (λ (ps : List Pos). after_path head from to None ps (numbered-from_line (number + 1) rest)) (sym is))
 
 -- the lines of a cut, and the end
 cut_back : (head : CertificateHead) (from to : Pos) (saddle : Option (Pos × ℤ)) (path cut : List Pos) (number : ℕ) → AreWritable cut
-    → value_of (after_path head from to saddle path (numbered-from_line number (cut_part cut))) ≡ Ok (record { side = head.side; adjacency = head.adjacency; from = from; to = to; saddle = saddle; path = path; cut = cut })
+    → value_of (after_path head from to saddle path (numbered-from_line number (cut_part cut)))
+    ≡ Ok (record { side = head.side; adjacency = head.adjacency; from = from; to = to; saddle = saddle; path = path; cut = cut })
 cut_back head from to saddle path cut number are =
     let more = count_form-counted point_words point_form IsWritablePoint point_back (codes "cut") refl cut number ((codes "end" ∷ []) ∷ []) are.few are.each in
     ap (λ (r : Read (List Pos)). value_of (and_then r (after_cut head from to saddle path))) more.1

@@ -20,12 +20,14 @@ last_parts points = flat_map-append line_text (cut_lines points) ((codes "end" �
 pub certificate_text-parts : (c : Certificate) → certificate_text c ≡ line_text (codes "certificate" ∷ side_word c.side ∷ adjacency_word c.adjacency ∷ [])
     ++ (line_text (codes "from" ∷ point_words c.from) ++ (line_text (codes "to" ∷ point_words c.to) ++ (flat_map line_text (saddle_lines c.saddle c.path)
     ++ ((codes "cut " ++ (decimal (length c.cut) ++ 10 ∷ flat_map point_line c.cut)) ++ (codes "end" ++ 10 ∷ [])))))
-certificate_text-parts c = ap (λ (t : List ℕ). line_text (codes "certificate" ∷ side_word c.side ∷ adjacency_word c.adjacency ∷ []) ++ (line_text (codes "from" ∷ point_words c.from) ++ (line_text (codes "to" ∷ point_words c.to) ++ t)))
+certificate_text-parts c = ap (λ (t : List ℕ). line_text (codes "certificate" ∷ side_word c.side ∷ adjacency_word c.adjacency ∷ [])
+    ++ (line_text (codes "from" ∷ point_words c.from) ++ (line_text (codes "to" ∷ point_words c.to) ++ t)))
     (flat_map-append line_text (saddle_lines c.saddle c.path) (cut_lines c.cut ++ (codes "end" ∷ []) ∷ [])
     ∙ ap (λ (t : List ℕ). flat_map line_text (saddle_lines c.saddle c.path) ++ t) (last_parts c.cut))
 
 -- the same with a path and a cut that are its own
-pub certificate_text-parts_at : (c : Certificate) (path cut : List Pos) → path ≡ c.path → cut ≡ c.cut → certificate_text c ≡ line_text (codes "certificate" ∷ side_word c.side ∷ adjacency_word c.adjacency ∷ [])
+pub certificate_text-parts_at : (c : Certificate) (path cut : List Pos) → path ≡ c.path → cut ≡ c.cut
+    → certificate_text c ≡ line_text (codes "certificate" ∷ side_word c.side ∷ adjacency_word c.adjacency ∷ [])
     ++ (line_text (codes "from" ∷ point_words c.from) ++ (line_text (codes "to" ∷ point_words c.to) ++ (flat_map line_text (saddle_lines c.saddle path)
     ++ ((codes "cut " ++ (decimal (length cut) ++ 10 ∷ flat_map point_line cut)) ++ (codes "end" ++ 10 ∷ [])))))
 certificate_text-parts_at c path cut e f = rw (e, f) (certificate_text-parts c)
@@ -33,4 +35,5 @@ certificate_text-parts_at c path cut e f = rw (e, f) (certificate_text-parts c)
 -- the lines of a saddle and of a path by their parts
 pub saddle_lines-parts : (s : Pos × ℤ) (path : List Pos) → flat_map line_text (saddle_lines (Some s) path)
     ≡ line_text (codes "saddle" ∷ decimal s.0.x ∷ decimal s.0.y ∷ signed_decimal s.1 ∷ []) ++ (codes "path " ++ (decimal (length path) ++ 10 ∷ flat_map point_line path))
-saddle_lines-parts s path = ap (λ (t : List ℕ). line_text (codes "saddle" ∷ decimal s.0.x ∷ decimal s.0.y ∷ signed_decimal s.1 ∷ []) ++ t) (line_text-counted point_words (codes "path") (decimal (length path)) path)
+saddle_lines-parts s path = ap (λ (t : List ℕ). line_text (codes "saddle" ∷ decimal s.0.x ∷ decimal s.0.y ∷ signed_decimal s.1 ∷ []) ++ t)
+    (line_text-counted point_words (codes "path") (decimal (length path)) path)

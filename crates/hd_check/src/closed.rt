@@ -29,7 +29,8 @@ pub fn first_leak<G: Heights>(
 ) -> Option<Pos>
     requires present { (k : ℕ) → k < length cut.now → Present (G.map surface.now) (point_of cut.now k) }
     requires level { MatchOption level (Unit {0}) (Present (G.map surface.now)) }
-    requires rises { AsksPairs cut.now (λ p q. place_of (G.map surface.now).size p < place_of (G.map surface.now).size q) None }
+    requires rises { AsksPairs cut.now (λ p q. place_of (G.map surface.now).size p
+        < place_of (G.map surface.now).size q) None }
     ensures { IsCutClosed (G.map surface.now) side level cut.now result }
 {
     let top = rank_at(surface, level);
@@ -70,12 +71,15 @@ fn leak_of<G: Heights>(
 ) -> Option<Pos>
     requires present { (k : ℕ) → k < length cut.now → Present (G.map surface.now) (point_of cut.now k) }
     requires top { top ≡ rank_of_level (G.map surface.now) level }
-    requires rises { AsksPairs cut.now (λ p q. place_of (G.map surface.now).size p < place_of (G.map surface.now).size q) None }
+    requires rises { AsksPairs cut.now (λ p q. place_of (G.map surface.now).size p
+        < place_of (G.map surface.now).size q) None }
     requires at { Contains cut.now at }
     requires here { Present (G.map surface.now) at }
-    requires places { ArePlaces (G.map surface.now).size cut.now (place_of (G.map surface.now).size at) places.old }
+    requires places { ArePlaces (G.map surface.now).size cut.now
+        (place_of (G.map surface.now).size at) places.old }
     ensures first { FirstLeak (G.map surface.now) side level cut.now at result }
-    ensures places { ArePlaces (G.map surface.now).size cut.now (place_of (G.map surface.now).size at + 1) places.new }
+    ensures places { ArePlaces (G.map surface.now).size cut.now
+        (place_of (G.map surface.now).size at + 1) places.new }
 {
     let above = leak_in(surface, side, level, top, cut, at, 0, &mut places.above);
     if above.is_some() {
@@ -101,13 +105,16 @@ fn leak_in<G: Heights>(
 ) -> Option<Pos>
     requires present { (k : ℕ) → k < length cut.now → Present (G.map surface.now) (point_of cut.now k) }
     requires top { top ≡ rank_of_level (G.map surface.now) level }
-    requires rises { AsksPairs cut.now (λ p q. place_of (G.map surface.now).size p < place_of (G.map surface.now).size q) None }
+    requires rises { AsksPairs cut.now (λ p q. place_of (G.map surface.now).size p
+        < place_of (G.map surface.now).size q) None }
     requires at { Contains cut.now at }
     requires here { Present (G.map surface.now) at }
     requires step { step ≤ 2 }
-    requires place { IsPlaceOf (G.map surface.now).size cut.now (place_of (G.map surface.now).size at) step place.old }
+    requires place { IsPlaceOf (G.map surface.now).size cut.now
+        (place_of (G.map surface.now).size at) step place.old }
     ensures first { FirstLeakIn (G.map surface.now) side level cut.now at step result }
-    ensures place { IsPlaceOf (G.map surface.now).size cut.now (place_of (G.map surface.now).size at + 1) step place.new }
+    ensures place { IsPlaceOf (G.map surface.now).size cut.now
+        (place_of (G.map surface.now).size at + 1) step place.new }
 {
     let size = surface.size();
     if at.y + step == 0 || at.y + step > size.profiles {
@@ -163,7 +170,8 @@ fn is_open<G: Heights>(
 ) -> bool
     requires at { InGrid (G.map surface.now).size at }
     requires top { top ≡ rank_of_level (G.map surface.now) _level }
-    ensures { IsTrue result ↔ (AreBesideUnder (G.map surface.now).adjacency from at × Present (G.map surface.now) at × IsBelowLevel (G.map surface.now) side _level at) }
+    ensures { IsTrue result ↔ (AreBesideUnder (G.map surface.now).adjacency from at
+        × Present (G.map surface.now) at × IsBelowLevel (G.map surface.now) side _level at) }
 {
     are_beside(surface.adjacency(), from, at)
         && is_present(surface, at)

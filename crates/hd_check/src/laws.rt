@@ -15,7 +15,8 @@ ghost use Rattle.hd_check.specs.Writable.{IsWritable};
 /// On any map a right certificate names the saddle of its two pits under its setting, and names none
 /// only where no path joins them.
 pub fn right_certificate_tells_the_saddle()
-    ensures { (m : Map) (c : Certificate) → IsRight m c → SaddleIs (under c.adjacency m) c.side (rank m c.from) (rank m c.to) (saddle_of m c) }
+    ensures { (m : Map) (c : Certificate) → IsRight m c
+        → SaddleIs (under c.adjacency m) c.side (rank m c.from) (rank m c.to) (saddle_of m c) }
 {}
 
 /// A certificate has one verdict at most on a map.

@@ -200,7 +200,8 @@ pub fn first_high<G: Heights>(surface: &G, certificate: &Certificate) -> Option<
 fn high_of<G: Heights>(surface: &G, side: SideName, saddle: Pos, path: &[Pos]) -> Option<Pos>
     requires saddle { Present (G.map surface.now) saddle }
     requires path { (k : ℕ) → k < length path.now → Present (G.map surface.now) (point_of path.now k) }
-    ensures { AsksPoints path.now (λ p. IsNotAbove (below_by side) (rank (G.map surface.now) p) (rank (G.map surface.now) saddle)) result }
+    ensures { AsksPoints path.now (λ p. IsNotAbove (below_by side) (rank (G.map surface.now) p)
+        (rank (G.map surface.now) saddle)) result }
 {
     for k in 0..path.len() {
         if is_lower(surface, side, saddle, path[k]) {

@@ -25,7 +25,8 @@ pub fn write_certificate(out: &mut List<u8>, certificate: &Certificate) -> Resul
 
 // Adds `certificate S N`.
 fn push_head(out: &mut List<u8>, side: SideName, adjacency: Adjacency) -> Result<(), Memory>
-    ensures { Adds out.old out.new result (line_text (codes "certificate" ∷ side_word side ∷ adjacency_word adjacency ∷ [])) }
+    ensures { Adds out.old out.new result (line_text
+        (codes "certificate" ∷ side_word side ∷ adjacency_word adjacency ∷ [])) }
 {
     match (side, adjacency) {
         (SideName::Dales, Adjacency::Four) => push_text(out, b"certificate D 4\n"),
@@ -77,7 +78,9 @@ fn push_saddle(out: &mut List<u8>, saddle: Option<(Pos, i64)>, path: &[Pos]) -> 
 
 // Adds the lines of a saddle and of a path.
 fn push_path(out: &mut List<u8>, saddle: (Pos, i64), path: &[Pos]) -> Result<(), Memory>
-    ensures { Adds out.old out.new result (line_text (codes "saddle" ∷ decimal saddle.0.x ∷ decimal saddle.0.y ∷ signed_decimal saddle.1 ∷ []) ++ (codes "path " ++ (decimal (length path.now) ++ 10 ∷ flat_map point_line path.now))) }
+    ensures { Adds out.old out.new result (line_text
+        (codes "saddle" ∷ decimal saddle.0.x ∷ decimal saddle.0.y ∷ signed_decimal saddle.1 ∷ [])
+        ++ (codes "path " ++ (decimal (length path.now) ++ 10 ∷ flat_map point_line path.now))) }
 {
     push_saddle_line(out, saddle)?;
     push_counted(out, b"path ", path)?;
@@ -86,7 +89,8 @@ fn push_path(out: &mut List<u8>, saddle: (Pos, i64), path: &[Pos]) -> Result<(),
 
 // Adds the line of a saddle.
 fn push_saddle_line(out: &mut List<u8>, saddle: (Pos, i64)) -> Result<(), Memory>
-    ensures { Adds out.old out.new result (line_text (codes "saddle" ∷ decimal saddle.0.x ∷ decimal saddle.0.y ∷ signed_decimal saddle.1 ∷ [])) }
+    ensures { Adds out.old out.new result (line_text
+        (codes "saddle" ∷ decimal saddle.0.x ∷ decimal saddle.0.y ∷ signed_decimal saddle.1 ∷ [])) }
 {
     push_text(out, b"saddle ")?;
     push_count(out, saddle.0.x)?;
@@ -108,7 +112,8 @@ fn push_height(out: &mut List<u8>, saddle: (Pos, i64)) -> Result<(), Memory>
 
 // Adds a key, the number of points, and their lines.
 fn push_counted(out: &mut List<u8>, key: &[u8], points: &[Pos]) -> Result<(), Memory>
-    ensures { Adds out.old out.new result (key.now ++ (decimal (length points.now) ++ 10 ∷ flat_map point_line points.now)) }
+    ensures { Adds out.old out.new result (key.now
+        ++ (decimal (length points.now) ++ 10 ∷ flat_map point_line points.now)) }
 {
     push_text(out, key)?;
     push_unsigned(out, points.len() as u64)?;

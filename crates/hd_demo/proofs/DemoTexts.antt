@@ -5,7 +5,8 @@ use Rattle.hd_session.specs.State.{State, IsState}
 use Rattle.hd_session.specs.Answers.{IsAnswer}
 use Rattle.hd_session.specs.Reply.{Reply}
 use Rattle.hd_words.specs.declared.demo.Demo.{Demo}
-use Rattle.hd_demo.specs.DemoText.{AddsRow, AddsRows, AddsTold, AreEdits, AreRowTexts, IsDemoText, IsRowText, IsTheDemoText, IsTold, Row, demo_state, edits_line, row_text, summary_rows, title, value_in}
+use Rattle.hd_demo.specs.DemoText.{AddsRow, AddsRows, AddsTold, AreEdits, AreRowTexts, IsDemoText, IsRowText, IsTheDemoText, IsTold, Row, demo_state}
+use Rattle.hd_demo.specs.DemoText.{edits_line, row_text, summary_rows, title, value_in}
 use Rattle.hd_demo.specs.Generator.{drawn_edit}
 
 -- no lines
@@ -18,7 +19,8 @@ AddsRows-then s middle after r rows old mid new (told, is, e) (others, are, f) =
     (told ++ others, (told, middle, others, is, are, refl), f ∙ ap (λ t. t ++ others) e ∙ append_assoc old told others)
 
 -- one more edit
-pub AreEdits-more : (demo : Demo) (s middle after : State) (n : ℕ) (line : List ℕ) (reply : Reply) → AreEdits demo s n middle → line ≡ drawn_edit demo.size demo.number n → IsAnswer middle 1 line reply after
+pub AreEdits-more : (demo : Demo) (s middle after : State) (n : ℕ) (line : List ℕ) (reply : Reply) → AreEdits demo s n middle → line ≡ drawn_edit demo.size demo.number n
+    → IsAnswer middle 1 line reply after
     → AreEdits demo s (n + 1) after
 AreEdits-more demo s middle after n line reply are line_is is =
     let e : suc n ≡ n + 1 = omega arith in

@@ -62,7 +62,8 @@ AreCellsOf-drawn number n k inside h is =
     IsCellOf-drawn (drawn number (k + 1)) below h (sym here ∙ is)
 
 -- one more cell
-pub drawn_cells-more : (number n last : ℕ) (before after : List Cell) (cell : Cell) → before ≡ drawn_cells number n → last ≡ drawn number n → cell ≡ cell_in (next_draw last) → after ≡ before ++ cell ∷ []
+pub drawn_cells-more : (number n last : ℕ) (before after : List Cell) (cell : Cell) → before ≡ drawn_cells number n → last ≡ drawn number n → cell ≡ cell_in (next_draw last)
+    → after ≡ before ++ cell ∷ []
     → after ≡ drawn_cells number (n + 1)
 drawn_cells-more number n last before after cell so_far last_is cell_is more =
     more ∙ ap (λ xs. xs ++ cell ∷ []) so_far ∙ ap (λ c. drawn_cells number n ++ c ∷ []) (cell_is ∙ ap (λ s. cell_in (next_draw s)) last_is ∙ ap cell_in (sym (drawn-more number n)))

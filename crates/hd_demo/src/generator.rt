@@ -101,7 +101,8 @@ fn file_on(alloc: Global, surface: Surface) -> Result<SdfFile, Memory>
 
 // The decimal 1 or -1, as it is written.
 fn unit(alloc: Global, negative: bool, literal: &[u8]) -> Result<Decimal, Memory>
-    ensures { IfOk result (λ unit. unit ≡ record { negative = negative; digits = 1; exponent = pos 0; literal = literal.now }) }
+    ensures { IfOk result (λ unit. unit ≡ record
+        { negative = negative; digits = 1; exponent = pos 0; literal = literal.now }) }
 {
     Ok(Decimal {
         negative,
@@ -115,7 +116,8 @@ fn unit(alloc: Global, negative: bool, literal: &[u8]) -> Result<Decimal, Memory
 /// index, the second the height.
 pub fn drawn_edit(alloc: Global, size: Size, draws: &mut Draws) -> Result<List<u8>, Memory>
     requires { IsSize size }
-    ensures edit { IfOk result (λ line. line ≡ edit_by size (next_draw draws.old.last) (next_draw (next_draw draws.old.last))) }
+    ensures edit { IfOk result (λ line. line ≡ edit_by size (next_draw draws.old.last)
+        (next_draw (next_draw draws.old.last))) }
     ensures last { draws.new.last ≡ next_draw (next_draw draws.old.last) }
 {
     let first = draws.draw();

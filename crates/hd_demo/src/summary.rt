@@ -18,7 +18,8 @@ pub fn push_summary<E: SurfaceSession>(
     session: &mut E,
 ) -> Result<(), Memory>
     requires asked { E.asked session.old + 6 ≤ 16777216 }
-    ensures summary { OnOk result (AddsRows (E.state session.old) summary_rows out.old out.new (E.state session.new)) }
+    ensures summary { OnOk result (AddsRows (E.state session.old) summary_rows out.old out.new
+        (E.state session.new)) }
     ensures asked { OnOk result (E.asked session.new ≡ E.asked session.old + 6) }
 {
     push_row(alloc, out, session, "dales", "dales")?;
@@ -39,7 +40,8 @@ fn push_row<E: SurfaceSession>(
     question: &str,
 ) -> Result<(), Memory>
     requires asked { E.asked session.old < 16777216 }
-    ensures row { OnOk result (AddsRow (E.state session.old) (row label.now question.now) out.old out.new (E.state session.new)) }
+    ensures row { OnOk result (AddsRow (E.state session.old)
+        (row label.now question.now) out.old out.new (E.state session.new)) }
     ensures asked { E.asked session.new ≡ E.asked session.old + 1 }
 {
     let answer = session.answer_line(1, question.as_bytes())?;

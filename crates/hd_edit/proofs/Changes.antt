@@ -52,7 +52,8 @@ pub before_changes-mask : (m m' : Map) (notes notes' : List Change) (at : Pos) (
     → before_changes notes' m' ≡ before_changes notes m
 before_changes-mask m m' notes notes' at index masked new pushed place here set =
     ap (λ ns. before_changes ns m') pushed ∙ before_changes-push notes (record { index = index; was = was.Mask masked }) m'
-    ∙ ap (before_changes notes) (ap (λ i. with_was (was.Mask masked) i m') place ∙ ap (λ v. with_was (was.Mask v) (place_of m.size at) m') here ∙ ap (with_was (was.Mask (mask_at m at)) (place_of m.size at)) set ∙ mask_back m at new)
+    ∙ ap (before_changes notes) (ap (λ i. with_was (was.Mask masked) i m') place ∙ ap (λ v. with_was (was.Mask v) (place_of m.size at) m') here
+    ∙ ap (with_was (was.Mask (mask_at m at)) (place_of m.size at)) set ∙ mask_back m at new)
 
 -- a change is undone alike under each setting
 under_was : (adjacency : Adjacency) (w : Was) (k : ℕ) (m : Map) → with_was w k (under adjacency m) ≡ under adjacency (with_was w k m)

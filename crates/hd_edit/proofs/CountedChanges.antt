@@ -68,7 +68,8 @@ module _ (m : Map) (from to : Pos) (s : Stroke) where
       let here : new_cells m from to s n ≡ new_cell m from to s at = ap (new_cell m from to s) (position_at-of m.size at inside) in
       let out : Cell → Bool = λ c. not (cell_in_range m.data_type c) in
       let first : position_or_len out cells ≡ n = position_or_len_is out cells n Bad (omega (arith, len, below))
-      (λ k before. rw (get_or-map-range_with_len (new_cells m from to s) 0 (cell_count m.size) k k Bad (omega (arith, before, below)) (omega arith)) (rw (cell_in_range-is m.data_type (new_cells m from to s k) (fit k before))))
+      (λ k before. rw (get_or-map-range_with_len (new_cells m from to s) 0 (cell_count m.size) k k Bad (omega (arith, before, below)) (omega arith))
+      (rw (cell_in_range-is m.data_type (new_cells m from to s k) (fit k before))))
       (λ _. rw (get_or-map-range_with_len (new_cells m from to s) 0 (cell_count m.size) n n Bad below (omega arith), here) (rw (cell_out_of_range m.data_type (new_cell m from to s at) never))) in
       ap (option_map (λ k. HeightRange (position_at m.size k))) (position_is out cells n first (omega (arith, len, below)))
       ∙ ap (λ (p : Pos). Some (HeightRange p)) (position_at-of m.size at inside)
@@ -86,7 +87,8 @@ module _ (m : Map) (from to : Pos) (s : Stroke) where
   module _ (whole : IsMap m) (is : IsRectangle m.size from to) where
     -- before the first corner
     pub Counted-first : Counted (place_of m.size from) 0
-    Counted-first = Counted-skip whole 0 (place_of m.size from) 0 (omega arith) (λ k after before. in_rectangle-none_before m.size from to is k before) (record { count_is = refl; fit = λ k before below. absurd (omega (arith, before)) })
+    Counted-first = Counted-skip whole 0 (place_of m.size from) 0 (omega arith) (λ k after before. in_rectangle-none_before m.size from to is k before)
+        (record { count_is = refl; fit = λ k before below. absurd (omega (arith, before)) })
 
     module _ (at : Pos) (stands : StandsAt from to at) (here : at.y ≤ to.y) where
       -- what the stroke makes of the point where the walk stands
@@ -101,8 +103,10 @@ module _ (m : Map) (from to : Pos) (s : Stroke) where
           → Counted (place_of m.size (next_in from to at)) (count + (if b then 1 else 0))
       Counted-next count b so same fits =
           let n = place_of m.size at in
-          Counted-skip whole (n + 1) (place_of m.size (next_in from to at)) (count + (if b then 1 else 0)) (next_in-later m.size from to at is stands here) (in_rectangle-none_between m.size from to at is stands here) (record {
-            count_is = ap (λ (v : Bool). count + (if v then 1 else 0)) (same ∙ sym changes_at-here) ∙ ap (λ (v : ℕ). v + (if changes_at m from to s n then 1 else 0)) so.count_is ∙ sym (count_below-more (changes_at m from to s) n);
+          Counted-skip whole (n + 1) (place_of m.size (next_in from to at)) (count + (if b then 1 else 0)) (next_in-later m.size from to at is stands here)
+          (in_rectangle-none_between m.size from to at is stands here) (record {
+            count_is = ap (λ (v : Bool). count + (if v then 1 else 0)) (same ∙ sym changes_at-here) ∙ ap (λ (v : ℕ). v + (if changes_at m from to s n then 1 else 0)) so.count_is
+                ∙ sym (count_below-more (changes_at m from to s) n);
             fit = λ k before below. elim (cases_lt k n) [
               | inl less ↦ so.fit k less below
               | inr more ↦ let e : k ≡ n = omega (arith, more, before) in rw (e, new_here) fits
@@ -121,8 +125,10 @@ module _ (m : Map) (from to : Pos) (s : Stroke) where
     -- past the last profile all points are counted
     pub count_below-all_changes : (at : Pos) → to.y < at.y → count_below (changes_at m from to s) (place_of m.size at) ≡ count_below (changes_at m from to s) (cell_count m.size)
     count_below-all_changes at past = let n = place_of m.size at in elim (cases_lt n (cell_count m.size)) [
-      | inl less ↦ count_below-skip (changes_at m from to s) n (cell_count m.size) (omega (arith, less)) (λ k after before. changes_at-outside k (in_rectangle-none_past m.size from to is at past k after))
-      | inr more ↦ sym (count_below-skip (changes_at m from to s) (cell_count m.size) n more (λ k after before. changes_at-outside k (in_rectangle-none_past m.size from to is (record { x = 0; y = m.size.profiles }) is.second.profile k (omega (arith, after)))))
+      | inl less ↦ count_below-skip (changes_at m from to s) n (cell_count m.size) (omega (arith, less))
+          (λ k after before. changes_at-outside k (in_rectangle-none_past m.size from to is at past k after))
+      | inr more ↦ sym (count_below-skip (changes_at m from to s) (cell_count m.size) n more
+          (λ k after before. changes_at-outside k (in_rectangle-none_past m.size from to is (record { x = 0; y = m.size.profiles }) is.second.profile k (omega (arith, after)))))
     ]
 
     pub Counted-last : (at : Pos) (count : ℕ) → to.y < at.y → Counted (place_of m.size at) count → (count ≡ count_below (changes_at m from to s) (cell_count m.size)) × IsStrokeOf m from to s

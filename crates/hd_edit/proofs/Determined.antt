@@ -30,7 +30,8 @@ module _ (m : Map)
     (never_both : (filter : Filter) (e : ElementTable) (cells : List Cell) (p : Pos) → AreFilteredCells filter m e cells → IsOutOfRange filter m e p → ⊥) where
   one_filtered : (filter : Filter) (found : Option ElementTable) (x y : Result Map EditError) → IsFilteredBy filter m found x → IsFilteredBy filter m found y → x ≡ y
   one_filtered filter None x y first second = first ∙ sym second
-  one_filtered filter (Some e) (Ok a) (Ok b) first second = ap Ok (first.is_map ∙ ap (with_cells m) (one_list filter e first.cells second.cells first.are_filtered second.are_filtered) ∙ sym second.is_map)
+  one_filtered filter (Some e) (Ok a) (Ok b) first second = ap Ok (first.is_map ∙ ap (with_cells m)
+      (one_list filter e first.cells second.cells first.are_filtered second.are_filtered) ∙ sym second.is_map)
   one_filtered filter (Some e) (Ok a) (Err b) first second = let other = in_range_of filter m e b second in absurd (never_both filter e first.cells other.0 first.are_filtered other.2)
   one_filtered filter (Some e) (Err a) (Ok b) first second = let other = in_range_of filter m e a first in absurd (never_both filter e second.cells other.0 second.are_filtered other.2)
   one_filtered filter (Some e) (Err a) (Err b) first second =

@@ -59,7 +59,8 @@ filtered_absent Closing s e f g is = λ p inside none. is.second.absent p inside
 -- so its cell stays
 others_left : (filter : Filter) (m : Map) (e : ElementTable) (heights : List (Option ℤ)) → AreFilteredCells filter m e (cells_after m heights) → LeavesOthers m heights
 others_left filter m e heights are = λ p inside none.
-    sym (cells_after-get_or m heights (place_of m.size p) Bad (place_inside m.size p inside)) ∙ are.are_cells.absent p inside (filtered_absent filter m.size e (relief_of m) are.heights are.filtered p inside none)
+    sym (cells_after-get_or m heights (place_of m.size p) Bad (place_inside m.size p inside))
+    ∙ are.are_cells.absent p inside (filtered_absent filter m.size e (relief_of m) are.heights are.filtered p inside none)
 
 -- new heights of a filter, in lists of either type
 pub IsNewFor-lists : (filter : Filter) (m : Map) (e : ElementTable) (lists : OldAndNew) → AreOldAndNew filter m e lists → IsNewFor m lists
@@ -102,7 +103,8 @@ none_passes p (suc n) none k below = elim (cases_lt k n) [
   | inl before ↦ none_passes p n (omega (arith, none)) k before
   | inr not ↦
       let here : k ≡ n = omega (arith, below, not) in
-      rw here (false_from_ne_true (p n) (λ passes. let one : count_below p (suc n) ≡ count_below p n + 1 = ap (λ (b : Bool). count_below p n + (if b then 1 else 0)) passes in absurd (omega (arith, one, none))))
+      rw here (false_from_ne_true (p n) (λ passes. let one : count_below p (suc n) ≡ count_below p n
+      + 1 = ap (λ (b : Bool). count_below p n + (if b then 1 else 0)) passes in absurd (omega (arith, one, none))))
 ]
 
 -- a new height of the type, or the old cell of it, is of it
@@ -144,7 +146,8 @@ module _ (m : Map) (whole : IsMap m) (olds : List (Option ℤ)) (held : (p : Pos
         let p : Pos = position_at m.size k in
         let place : place_of m.size p ≡ k = position_at-place m.size k whole.size.some_points in
         let here : cell_at m p ≡ get_or m.cells k Bad = ap (λ (i : ℕ). get_or m.cells i Bad) place in
-        let same : get_or olds k None ≡ get_or news k None = one_height (get_or olds k None) (get_or news k None) (none_passes (λ i. differs (get_or olds i None) (get_or news i None)) (cell_count m.size) none k below) in
+        let same : get_or olds k None ≡ get_or news k None = one_height (get_or olds k None) (get_or news k None)
+        (none_passes (λ i. differs (get_or olds i None) (get_or news i None)) (cell_count m.size) none k below) in
         let told = sym same ∙ held_at k below in
         elim (Option-some_or_none (height_at m p)) [
           | inl some ↦ ap (λ (v : Option ℤ). cell_with v (get_or m.cells k Bad)) (told ∙ some.1) ∙ sym (shown_height-told (cell_at m p) (mask_at m p) some.0 some.1) ∙ here

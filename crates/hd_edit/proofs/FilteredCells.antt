@@ -34,10 +34,12 @@ module _ (m : Map) (heights : List (Option ℤ)) where
   partly_new n = record m { cells = map (mix n (cell_after m heights) old_cell) (range_with_len 0 (cell_count m.size)) }
 
   pub partly_new-none : (n : ℕ) → n ≡ 0 → length m.cells ≡ cell_count m.size → m ≡ partly_new n
-  partly_new-none n none whole = ap (λ (cs : List Cell). record m { cells = cs }) (fill_by_all (mix n (cell_after m heights) old_cell) m.cells (cell_count m.size) Bad whole (λ k h. sym (mix-from n (cell_after m heights) old_cell k (omega (arith, none)))))
+  partly_new-none n none whole = ap (λ (cs : List Cell). record m { cells = cs })
+      (fill_by_all (mix n (cell_after m heights) old_cell) m.cells (cell_count m.size) Bad whole (λ k h. sym (mix-from n (cell_after m heights) old_cell k (omega (arith, none)))))
 
   pub partly_new-all : (n : ℕ) → cell_count m.size ≤ n → partly_new n ≡ with_cells m (cells_after m heights)
-  partly_new-all n past = ap (λ (cs : List Cell). record m { cells = cs }) (map_range-same (mix n (cell_after m heights) old_cell) (cell_after m heights) (cell_count m.size) Bad (λ k h. mix-before n (cell_after m heights) old_cell k (omega (arith, h, past))))
+  partly_new-all n past = ap (λ (cs : List Cell). record m { cells = cs }) (map_range-same (mix n (cell_after m heights) old_cell) (cell_after m heights) (cell_count m.size) Bad
+      (λ k h. mix-before n (cell_after m heights) old_cell k (omega (arith, h, past))))
 
   -- the heights of a profile
   abbrev pub profile_of : ℕ → List (Option ℤ)
@@ -71,7 +73,8 @@ module _ (m : Map) (heights : List (Option ℤ)) where
     ]
 
     -- with them the cells before the next profile are new
-    cell_next : (k : ℕ) → k < cell_count m.size → cell_with_heights (partly_new (y * m.size.points)) y (profile_of y) (position_at m.size k) ≡ mix ((y + 1) * m.size.points) (cell_after m heights) old_cell k
+    cell_next : (k : ℕ) → k < cell_count m.size → cell_with_heights (partly_new (y * m.size.points)) y (profile_of y) (position_at m.size k)
+        ≡ mix ((y + 1) * m.size.points) (cell_after m heights) old_cell k
     cell_next k below =
         let p : Pos = position_at m.size k in
         let place : place_of m.size p ≡ k = position_at-place m.size k some in
@@ -90,17 +93,20 @@ module _ (m : Map) (heights : List (Option ℤ)) where
           | inr apart ↦ cell_off_profile (partly_new first) y (profile_of y) p apart ∙ was ∙ elim (cases_lt p.y y) [
             | inl above ↦
                 let rows : p.y * m.size.points + m.size.points ≤ first = omega (arith, mul-le-mul_right m.size.points above) in
-                mix-before first (cell_after m heights) old_cell k (omega (arith, rows, place, column)) ∙ sym (mix-before ((y + 1) * m.size.points) (cell_after m heights) old_cell k (omega (arith, rows, place, column, next)))
+                mix-before first (cell_after m heights) old_cell k (omega (arith, rows, place, column))
+                ∙ sym (mix-before ((y + 1) * m.size.points) (cell_after m heights) old_cell k (omega (arith, rows, place, column, next)))
             | inr not ↦
                 let under : y < p.y = omega (arith, not, apart) in
                 let rows : first + m.size.points ≤ p.y * m.size.points = omega (arith, mul-le-mul_right m.size.points under) in
-                mix-from first (cell_after m heights) old_cell k (omega (arith, rows, place)) ∙ sym (mix-from ((y + 1) * m.size.points) (cell_after m heights) old_cell k (omega (arith, rows, place, next)))
+                mix-from first (cell_after m heights) old_cell k (omega (arith, rows, place))
+                ∙ sym (mix-from ((y + 1) * m.size.points) (cell_after m heights) old_cell k (omega (arith, rows, place, next)))
           ]
         ]
 
     pub partly_new-profile : with_heights (partly_new (y * m.size.points)) y (profile_of y) ≡ partly_new ((y + 1) * m.size.points)
     partly_new-profile = ap (λ (cs : List Cell). record m { cells = cs })
-        (map_range-same (λ k. cell_with_heights (partly_new (y * m.size.points)) y (profile_of y) (position_at m.size k)) (mix ((y + 1) * m.size.points) (cell_after m heights) old_cell) (cell_count m.size) Bad cell_next)
+        (map_range-same (λ k. cell_with_heights (partly_new (y * m.size.points)) y (profile_of y) (position_at m.size k))
+        (mix ((y + 1) * m.size.points) (cell_after m heights) old_cell) (cell_count m.size) Bad cell_next)
 
   -- the cells of the profiles before one are new, and what those were that became others is noted
   pub record Noted (y : ℕ) (now : Map) (notes : List Change) : Type 0 where
@@ -126,7 +132,8 @@ module _ (m : Map) (heights : List (Option ℤ)) where
     Noted-type = ap (λ (s : Map). s.data_type) so.map
 
     -- one profile further
-    pub Noted-next : (now' : Map) (most : ℕ) (notes' : List Change) → 1 ≤ m.size.points → y < m.size.profiles → most ≤ m.size.points → AreNotedChanges now (with_heights now y (profile_of y)) most notes notes' → now' ≡ with_heights now y (profile_of y) → Noted (y + 1) now' notes'
+    pub Noted-next : (now' : Map) (most : ℕ) (notes' : List Change) → 1 ≤ m.size.points → y < m.size.profiles → most ≤ m.size.points
+        → AreNotedChanges now (with_heights now y (profile_of y)) most notes notes' → now' ≡ with_heights now y (profile_of y) → Noted (y + 1) now' notes'
     Noted-next now' most notes' some inside columns changes sets = record {
       map = sets ∙ ap (λ (s : Map). with_heights s y (profile_of y)) so.map ∙ partly_new-profile y some inside;
       before = ap (before_changes notes') sets ∙ changes.undone ∙ so.before;

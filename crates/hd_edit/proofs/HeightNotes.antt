@@ -21,7 +21,8 @@ pub All-before : {X : Type 0} (P : X → Type 0) (xs : List X) (x : X) → All P
 All-before P xs x h k d below = subst P (get_or_append_left xs (x ∷ []) d k below) (h k d (omega (arith, below, length_push xs x)))
 
 -- a height more is told as the last change, where no other change is noted
-pub changes_after-noted : (first last : ℕ) (old new : List HeightNote) (others : List Change) (note : HeightNote) (change : Change) → last ≡ last_after first old → new ≡ old ++ note ∷ [] → note_at last note ≡ change → others ≡ []
+pub changes_after-noted : (first last : ℕ) (old new : List HeightNote) (others : List Change) (note : HeightNote) (change : Change) → last ≡ last_after first old
+    → new ≡ old ++ note ∷ [] → note_at last note ≡ change → others ≡ []
     → changes_after first new ++ others ≡ (changes_after first old ++ others) ++ change ∷ []
 changes_after-noted first last old new others note change at is told none =
     ap (λ (cs : List Change). changes_after first new ++ cs) none ∙ append-nil (changes_after first new)
@@ -42,7 +43,8 @@ changes_after-popped first last old new others left note at is none none' =
     ap (λ (cs : List Change). changes_after first old ++ cs) none ∙ append-nil (changes_after first old)
     ∙ ap (changes_after first) is ∙ changes_after-push first new note
     ∙ ap (λ (i : ℕ). changes_after first new ++ record { index = i; was = was.Height (widened note.over) } ∷ []) (sym same)
-    ∙ ap (λ (cs : List Change). cs ++ record { index = last; was = was.Height (widened note.over) } ∷ []) (sym (append-nil (changes_after first new)) ∙ ap (λ (cs : List Change). changes_after first new ++ cs) (sym none'))
+    ∙ ap (λ (cs : List Change). cs ++ record { index = last; was = was.Height (widened note.over) } ∷ []) (sym (append-nil (changes_after first new))
+    ∙ ap (λ (cs : List Change). changes_after first new ++ cs) (sym none'))
 
 -- the first of further changes stays the first when one more comes, and when the last goes
 pub BeginsUnfit-none : (last : ℕ) → BeginsUnfit last []

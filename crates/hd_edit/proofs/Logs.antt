@@ -72,7 +72,8 @@ IsLog-kept log log' e m m' is kept are size type =
 pub last_item-split : {X : Type 0} (xs : List X) (x : X) → Some x ≡ last_item xs → xs ≡ take (length xs - 1) xs ++ x ∷ []
 last_item-split {X = X} xs x last =
     let within = slice_get_within xs (length xs - 1) x (sym last) in
-    sym (take_all (length xs - 1 + 1) xs (omega arith)) ∙ take_more xs (length xs - 1) x within ∙ ap (λ (y : X). take (length xs - 1) xs ++ y ∷ []) (get_or_from_slice_get xs (length xs - 1) x x (sym last))
+    sym (take_all (length xs - 1 + 1) xs (omega arith)) ∙ take_more xs (length xs - 1) x within
+    ∙ ap (λ (y : X). take (length xs - 1) xs ++ y ∷ []) (get_or_from_slice_get xs (length xs - 1) x x (sym last))
 
 some_or_none : {X : Type 0} (x : X) → ◌≡◌ {A = Option X} (Some x) None → ⊥
 some_or_none x e = cc
@@ -87,9 +88,11 @@ pub last_item-holds : {X : Type 0} (P : X → Type 0) (xs : List X) (x : X) → 
 last_item-holds P xs x last are = subst P (get_or_from_slice_get xs (length xs - 1) x x (sym last)) (are (length xs - 1) x (slice_get_within xs (length xs - 1) x (sym last)))
 
 -- without its last entry the log gives the maps before the one that the entry is undone to
-pub earlier_maps-undone : (es es' : List Entry) (e : Entry) (m m' : Map) → Some e ≡ last_item es → es' ≡ take (length es - 1) es → m' ≡ before_entry e m → earlier_maps es m ≡ earlier_maps es' m' ++ m' ∷ []
+pub earlier_maps-undone : (es es' : List Entry) (e : Entry) (m m' : Map) → Some e ≡ last_item es → es' ≡ take (length es - 1) es → m' ≡ before_entry e m
+    → earlier_maps es m ≡ earlier_maps es' m' ++ m' ∷ []
 earlier_maps-undone es es' e m m' last left is =
-    ap (λ (xs : List Entry). earlier_maps xs m) (last_item-split es e last ∙ ap (λ (xs : List Entry). xs ++ e ∷ []) (sym left)) ∙ earlier_maps-push es' e m ∙ ap (λ (b : Map). earlier_maps es' b ++ b ∷ []) (sym is)
+    ap (λ (xs : List Entry). earlier_maps xs m) (last_item-split es e last ∙ ap (λ (xs : List Entry). xs ++ e ∷ []) (sym left)) ∙ earlier_maps-push es' e m
+    ∙ ap (λ (b : Map). earlier_maps es' b ++ b ∷ []) (sym is)
 
 -- and it is a log of that map
 pub IsLog-undone : (log log' : Buffer Entry) (e : Entry) (m m' : Map) → IsLog m log → log' ≡ buffer (take (length log.items - 1) log.items) log.capacity → m' ≡ before_entry e m → IsLog m' log'
@@ -113,4 +116,5 @@ module _ {X : Type 0} where
   pub take_back-rest : (xs ys : List X) (x y : X) (i : ℕ) → ys ++ y ∷ [] ≡ take (length xs + 1 - i) (xs ++ x ∷ []) → length ys + i ≡ length xs → ys ≡ take (length xs - i) xs
   take_back-rest xs ys x y i so len =
       let e : length xs - i ≡ length ys = omega (arith, len) in
-      sym (take_at ys (y ∷ []) (length xs - i) (sym e)) ∙ ap (take (length xs - i)) so ∙ take-take (length xs - i) (length xs + 1 - i) (xs ++ x ∷ []) (omega (arith, len)) ∙ take-append-le (length xs - i) xs (x ∷ []) (omega (arith, len))
+      sym (take_at ys (y ∷ []) (length xs - i) (sym e)) ∙ ap (take (length xs - i)) so ∙ take-take (length xs - i) (length xs + 1 - i) (xs ++ x ∷ []) (omega (arith, len))
+      ∙ take-append-le (length xs - i) xs (x ∷ []) (omega (arith, len))

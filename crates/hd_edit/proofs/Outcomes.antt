@@ -42,7 +42,8 @@ use Rattle.hd_edit.proofs.CountedChanges.{cell_in_range-is, IsCellOf-in_range, C
 pub height_refusal-none : (m : Map) (cells : List Cell) → AreCellsOf m.data_type cells → height_refusal m cells ≡ None
 height_refusal-none m cells are =
     let out : Cell → Bool = λ c. not (cell_in_range m.data_type c) in
-    let none : position_or_len out cells ≡ length cells = position_or_len_is out cells (length cells) Bad (omega arith) (λ k inside. rw (cell_in_range-is m.data_type (get_or cells k Bad) (are k inside))) (λ less. absurd (omega (arith, less))) in
+    let none : position_or_len out cells ≡ length cells = position_or_len_is out cells (length cells) Bad (omega arith)
+    (λ k inside. rw (cell_in_range-is m.data_type (get_or cells k Bad) (are k inside))) (λ less. absurd (omega (arith, less))) in
     let nowhere : position out cells ≡ None = rw none (if-not_less (length cells) (length cells) (Some (length cells)) None (omega arith)) in
     ap (option_map (λ k. HeightRange (position_at m.size k))) nowhere
 
@@ -133,7 +134,8 @@ module _ (m : Map) (whole : IsMap m) where
         (stroked m at at (stroke.Put c)).cells (set m.cells n c)
         (stroked m at at (stroke.Put c)).masks m.masks
         (sym (fill_by_all f (set m.cells n c) (cell_count m.size) Bad (length-set m.cells n c ∙ whole.cells) (λ k h. elim (cases_eq k n) [
-          | inl same ↦ rw same (get_or-set_same m.cells n c Bad (rw whole.cells (place_inside m.size at inside)) ∙ sym (ap (new_cell m at at (stroke.Put c)) (position_at-of m.size at inside) ∙ new_cell-in m at at (stroke.Put c) at it_is))
+          | inl same ↦ rw same (get_or-set_same m.cells n c Bad (rw whole.cells (place_inside m.size at inside))
+              ∙ sym (ap (new_cell m at at (stroke.Put c)) (position_at-of m.size at inside) ∙ new_cell-in m at at (stroke.Put c) at it_is))
           | inr other ↦ get_or-set_other m.cells n k c Bad other ∙ sym (stays_here c k (no_other k other) ∙ cell_by_index k)
         ])))
         (by_index-masks (new_mask m at at (stroke.Put c)) (λ p. if-same (in_rectangle at at p) (mask_at m p)))
@@ -141,21 +143,26 @@ module _ (m : Map) (whole : IsMap m) where
     -- the cells with one of the type set are of the type
     one_whole : (c : Cell) → IsCellOf m.data_type c → AreCellsOf m.data_type (with_cell m at c).cells
     one_whole c of k inside' = let n = place_of m.size at in elim (cases_eq k n) [
-      | inl same ↦ subst (λ (v : Cell). IsCellOf m.data_type v) (sym (ap (λ (i : ℕ). get_or (set m.cells n c) i Bad) same ∙ get_or-set_same m.cells n c Bad (rw whole.cells (place_inside m.size at inside)))) of
+      | inl same ↦ subst (λ (v : Cell). IsCellOf m.data_type v) (sym (ap (λ (i : ℕ). get_or (set m.cells n c) i Bad) same
+          ∙ get_or-set_same m.cells n c Bad (rw whole.cells (place_inside m.size at inside)))) of
       | inr other ↦ subst (λ (v : Cell). IsCellOf m.data_type v) (sym (get_or-set_other m.cells n k c Bad other)) (whole.heights k (rw (← length-set m.cells n c) inside'))
     ]
 
     -- a cell of the type is set
-    one_made : (c : Cell) → IsCellOf m.data_type c → ◌≡◌ {A = Result Map EditError} (Ok (with_cell m at c)) (unless (height_refusal m (stroked m at at (stroke.Put c)).cells) (Ok (stroked m at at (stroke.Put c))))
-    one_made c of = subst (λ (n : Map). ◌≡◌ {A = Result Map EditError} (Ok (with_cell m at c)) (unless (height_refusal m n.cells) (Ok n))) (sym (stroked-one c)) (rw (height_refusal-none m (with_cell m at c).cells (one_whole c of)))
+    one_made : (c : Cell) → IsCellOf m.data_type c → ◌≡◌ {A = Result Map EditError} (Ok (with_cell m at c))
+        (unless (height_refusal m (stroked m at at (stroke.Put c)).cells) (Ok (stroked m at at (stroke.Put c))))
+    one_made c of = subst (λ (n : Map). ◌≡◌ {A = Result Map EditError} (Ok (with_cell m at c)) (unless (height_refusal m n.cells) (Ok n))) (sym (stroked-one c))
+        (rw (height_refusal-none m (with_cell m at c).cells (one_whole c of)))
 
     -- a height is set, or refused
     height_outcome : (z : ℤ) (b : Bool) → in_range m.data_type z ≡ b
-        → (if b then Ok (with_cell m at (Height z)) else Err (HeightRange at)) ≡ unless (height_refusal m (stroked m at at (stroke.Put (Height z))).cells) (Ok (stroked m at at (stroke.Put (Height z))))
+        → (if b then Ok (with_cell m at (Height z)) else Err (HeightRange at)) ≡ unless (height_refusal m (stroked m at at (stroke.Put (Height z))).cells)
+        (Ok (stroked m at at (stroke.Put (Height z))))
     height_outcome z true e = one_made (Height z) (IsCellOf-in_range m.data_type (Height z) e)
     height_outcome z false e =
         let s = stroke.Put (Height z) in
-        let refused = Counted-refused m at at s whole one_point at (StandsAt-first m.size at at one_point) (omega arith) 0 (Counted-first m at at s whole one_point) (λ of. true_or_false (sym (cell_in_range-is m.data_type (Height z) of) ∙ e)) in
+        let refused = Counted-refused m at at s whole one_point at (StandsAt-first m.size at at one_point) (omega arith) 0 (Counted-first m at at s whole one_point)
+        (λ of. true_or_false (sym (cell_in_range-is m.data_type (Height z) of) ∙ e)) in
         rw refused
 
   -- a point in the grid or outside it
@@ -166,7 +173,8 @@ module _ (m : Map) (whole : IsMap m) where
   point_outcome at c made false e is = rw e
 
   -- the masks of a rectangle set
-  mask_outcome : (from to : Pos) (b : Bool) → ◌≡◌ {A = Result Map EditError} (Ok (record m { masks = masks_with m from to b })) (unless (height_refusal m (stroked m from to (stroke.Mask b)).cells) (Ok (stroked m from to (stroke.Mask b))))
+  mask_outcome : (from to : Pos) (b : Bool) → ◌≡◌ {A = Result Map EditError} (Ok (record m { masks = masks_with m from to b }))
+      (unless (height_refusal m (stroked m from to (stroke.Mask b)).cells) (Ok (stroked m from to (stroke.Mask b))))
   mask_outcome from to b =
       let masks = masks_with m from to b in
       subst (λ (cells : List Cell). ◌≡◌ {A = Result Map EditError} (Ok (record m { masks = masks })) (unless (height_refusal m cells) (Ok (record m { cells = cells; masks = masks }))))
@@ -175,7 +183,8 @@ module _ (m : Map) (whole : IsMap m) where
 
   -- each edit that is no filter is a stroke of its rectangle
   pub height_set-outcome : (at : Pos) (z : ℤ) → height_set m at z ≡ outcome m at at (stroke.Put (Height z))
-  height_set-outcome at z = point_outcome at (Height z) (if in_range m.data_type z then Ok (with_cell m at (Height z)) else Err (HeightRange at)) (in_grid m.size at) refl (λ inside. height_outcome at inside z (in_range m.data_type z) refl)
+  height_set-outcome at z = point_outcome at (Height z) (if in_range m.data_type z then Ok (with_cell m at (Height z)) else Err (HeightRange at)) (in_grid m.size at) refl
+      (λ inside. height_outcome at inside z (in_range m.data_type z) refl)
 
   pub height_taken-outcome : (at : Pos) → height_taken m at ≡ outcome m at at (stroke.Put Bad)
   height_taken-outcome at = point_outcome at Bad (Ok (with_cell m at Bad)) (in_grid m.size at) refl (λ inside. one_made at inside Bad (bad_of_type m.data_type))
@@ -183,14 +192,16 @@ module _ (m : Map) (whole : IsMap m) where
   pub heights_raised-outcome : (from to : Pos) (delta : ℤ) → heights_raised m from to delta ≡ outcome m from to (stroke.Raise delta)
   heights_raised-outcome from to delta =
       let s = stroke.Raise delta in
-      ap (λ (masks : List Bool). unless (rectangle_refusal m.size from to) (unless (height_refusal m (stroked m from to s).cells) (Ok (record m { cells = (stroked m from to s).cells; masks = masks }))))
+      ap (λ (masks : List Bool). unless (rectangle_refusal m.size from to) (unless (height_refusal m (stroked m from to s).cells)
+      (Ok (record m { cells = (stroked m from to s).cells; masks = masks }))))
       (sym (by_index-masks (new_mask m from to s) (λ p. if-same (in_rectangle from to p) (mask_at m p))))
 
   pub masks_set-outcome : (from to : Pos) (b : Bool) → masks_set m from to b ≡ outcome m from to (stroke.Mask b)
   masks_set-outcome from to b = ap (unless (rectangle_refusal m.size from to)) (mask_outcome from to b)
 
   -- the outcome of the stroke is that of the edit
-  pub stroke_parts-edited : (elements : List ElementTable) (e : Edit) → MatchOption (stroke_parts e) (Unit {0}) (λ parts. (out : Result Map EditError) → out ≡ outcome m parts.0 parts.1 parts.2 → IsEdited elements m e out)
+  pub stroke_parts-edited : (elements : List ElementTable) (e : Edit) → MatchOption (stroke_parts e) (Unit {0}) (λ parts. (out : Result Map EditError)
+      → out ≡ outcome m parts.0 parts.1 parts.2 → IsEdited elements m e out)
   stroke_parts-edited elements (edit.Set at z) = λ out is. is ∙ sym (height_set-outcome at z)
   stroke_parts-edited elements (edit.Bad at) = λ out is. is ∙ sym (height_taken-outcome at)
   stroke_parts-edited elements (edit.Add from to delta) = λ out is. is ∙ sym (heights_raised-outcome from to delta)
@@ -201,8 +212,10 @@ module _ (m : Map) (whole : IsMap m) where
   stroke_parts-edited elements (edit.Open name) = tt
   stroke_parts-edited elements (edit.Close name) = tt
 
-  pub IsEdited-by_stroke : (elements : List ElementTable) (e : Edit) (from to : Pos) (s : Stroke) → Some (from, to, s) ≡ stroke_parts e → (out : Result Map EditError) → out ≡ outcome m from to s → IsEdited elements m e out
-  IsEdited-by_stroke elements e from to s parts = subst (λ (p : Option (Pos × Pos × Stroke)). MatchOption p (Unit {0}) (λ parts. (out : Result Map EditError) → out ≡ outcome m parts.0 parts.1 parts.2 → IsEdited elements m e out)) (sym parts) (stroke_parts-edited elements e)
+  pub IsEdited-by_stroke : (elements : List ElementTable) (e : Edit) (from to : Pos) (s : Stroke) → Some (from, to, s) ≡ stroke_parts e → (out : Result Map EditError)
+      → out ≡ outcome m from to s → IsEdited elements m e out
+  IsEdited-by_stroke elements e from to s parts = subst (λ (p : Option (Pos × Pos × Stroke)). MatchOption p (Unit {0}) (λ parts. (out : Result Map EditError)
+      → out ≡ outcome m parts.0 parts.1 parts.2 → IsEdited elements m e out)) (sym parts) (stroke_parts-edited elements e)
 
   module _ (from to : Pos) (s : Stroke) (rectangle : rectangle_refusal m.size from to ≡ None) where
     outcome-by : outcome m from to s ≡ unless (height_refusal m (stroked m from to s).cells) (Ok (stroked m from to s))
@@ -217,7 +230,8 @@ module _ (m : Map) (whole : IsMap m) where
     outcome-made fits = outcome-by ∙ ap (λ (r : Option EditError). unless r (Ok (stroked m from to s))) (height_refusal-none m (stroked m from to s).cells (λ k inside.
         let f : ℕ → Cell = λ k. new_cell m from to s (position_at m.size k) in
         let below : k < cell_count m.size = rw (← length-map-range_with_len f 0 (cell_count m.size)) inside in
-        subst (λ (c : Cell). IsCellOf m.data_type c) (sym (get_or-map-range_with_len f 0 (cell_count m.size) k k Bad below (omega arith))) (fits (position_at m.size k) (position_at-inside m.size k whole.size.some_points below))))
+        subst (λ (c : Cell). IsCellOf m.data_type c) (sym (get_or-map-range_with_len f 0 (cell_count m.size) k k Bad below (omega arith)))
+        (fits (position_at m.size k) (position_at-inside m.size k whole.size.some_points below))))
 
   -- a stroked map is a map if its cells are of the type
   stroked-whole : (from to : Pos) (s : Stroke) → AreCellsOf m.data_type (stroked m from to s).cells → IsMap (stroked m from to s)

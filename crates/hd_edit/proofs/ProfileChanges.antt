@@ -42,9 +42,11 @@ module _ (m : Map) (y : ℕ) (heights : List (Option ℤ)) (whole : IsMap m) whe
     after = with_heights m y (take (x + 1) heights)
 
     -- one column more
-    pub AreNotedChanges-more : (old : Map) (most : ℕ) (earlier notes notes' : List Change) (type : DataType) (index : ℕ) (height : Option ℤ) → old.size ≡ m.size → old.data_type ≡ m.data_type → type ≡ m.data_type → index ≡ place_of m.size (record { x = x; y = y })
+    pub AreNotedChanges-more : (old : Map) (most : ℕ) (earlier notes notes' : List Change) (type : DataType) (index : ℕ) (height : Option ℤ) → old.size ≡ m.size
+        → old.data_type ≡ m.data_type → type ≡ m.data_type → index ≡ place_of m.size (record { x = x; y = y })
         → height ≡ get_or heights x None → AreNotedChanges old (with_heights m y (take x heights)) most earlier notes
-        → IsNotedCell type index (cell_at m (record { x = x; y = y })) (cell_with height (cell_at m (record { x = x; y = y }))) notes notes' → AreNotedChanges old (with_heights m y (take (x + 1) heights)) (most + 1) earlier notes'
+        → IsNotedCell type index (cell_at m (record { x = x; y = y })) (cell_with height (cell_at m (record { x = x; y = y }))) notes notes'
+        → AreNotedChanges old (with_heights m y (take (x + 1) heights)) (most + 1) earlier notes'
     AreNotedChanges-more old most earlier notes notes' type index height old_size old_type same place there so noted =
         let cell : Cell = cell_at m at in
         let new : Cell = cell_with height cell in

@@ -71,7 +71,8 @@ module _ (m : Map) (whole : IsMap m) (from to : Pos) (n : ℤ) where
       subst (λ (c : Cell). IsCellOf m.data_type c) (new_cell-raised out.heights out.raised p inside)
       (IsCellOf-new_or_old m.data_type (out.heights p) (cell_at m p) (first.first p inside (omega (arith, place, before))) (IsCellOf-cell_at m whole p inside)))
       (λ of.
-      let new : new_cell m from to (stroke.Raise n) at ≡ Height first.height = sym (new_cell-raised out.heights out.raised at first.in_grid) ∙ ap (λ (v : Option ℤ). cell_with v (cell_at m at)) first.is_height in
+      let new : new_cell m from to (stroke.Raise n) at ≡ Height first.height = sym (new_cell-raised out.heights out.raised at first.in_grid)
+      ∙ ap (λ (v : Option ℤ). cell_with v (cell_at m at)) first.is_height in
       first.outside (subst (λ (c : Cell). IsCellOf m.data_type c) new of))
 
   module _ (heights : List (Option ℤ)) (is : AreRaisedWithin m.size from to n (relief_of m) (relief m.size heights)) where

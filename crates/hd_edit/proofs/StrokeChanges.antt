@@ -40,4 +40,9 @@ changes-none s cell masked stays shown = rw (stays, shown, same_cell-itself cell
 
 -- a point whose mask becomes another is changed
 pub changes-mask : (s : Stroke) (cell : Cell) (masked : Bool) → cell_after s cell masked ≡ cell → mask_after s masked ≢ masked → true ≡ changes s cell masked
-changes-mask s cell masked stays other = rw (stays, same_cell-itself cell, false_from_ne_true (same_mask (mask_after s masked) masked) (λ same. other (same_mask-true (mask_after s masked) masked same)))
+changes-mask s cell masked stays other = rw (
+  stays,
+  same_cell-itself cell,
+  false_from_ne_true (same_mask (mask_after s masked) masked)
+      (λ same. other (same_mask-true (mask_after s masked) masked same)),
+)

@@ -40,7 +40,8 @@ pub mix-other : {X : Type 0} (n : ℕ) (new old : ℕ → X) (k : ℕ) → k ≢
 mix-other n new old k other = mix-skip n (n + 1) new old k (omega arith) (λ from below. absurd (other (omega (arith, from, below))))
 
 -- maps of the same lists are one
-pub Map-same : (m : Map) (cells cells' : List Cell) (masks masks' : List Bool) → cells ≡ cells' → masks ≡ masks' → ◌≡◌ {A = Map} (record m { cells = cells; masks = masks }) (record m { cells = cells'; masks = masks' })
+pub Map-same : (m : Map) (cells cells' : List Cell) (masks masks' : List Bool) → cells ≡ cells' → masks ≡ masks'
+    → ◌≡◌ {A = Map} (record m { cells = cells; masks = masks }) (record m { cells = cells'; masks = masks' })
 Map-same m cells cells' masks masks' one other = cc
 
 at_most_one : (b : Bool) → (if b then 1 else 0) ≤ 1
@@ -49,10 +50,12 @@ at_most_one false = omega arith
 
 -- lists of two functions that agree are one
 pub map_range-same : {X : Type 0} (f g : ℕ → X) (count : ℕ) (d : X) → ((k : ℕ) → k < count → f k ≡ g k) → map f (range_with_len 0 count) ≡ map g (range_with_len 0 count)
-map_range-same f g count d same = fill_by_all g (map f (range_with_len 0 count)) count d (length-map-range_with_len f 0 count) (λ k h. get_or-map-range_with_len f 0 count k k d h (omega arith) ∙ same k h)
+map_range-same f g count d same = fill_by_all g (map f (range_with_len 0 count)) count d (length-map-range_with_len f 0 count)
+    (λ k h. get_or-map-range_with_len f 0 count k k d h (omega arith) ∙ same k h)
 
 -- a list of a function with one place set
-pub map_range-set : {X : Type 0} (f g : ℕ → X) (count n : ℕ) (v d : X) → n < count → ((k : ℕ) → k ≢ n → k < count → f k ≡ g k) → v ≡ g n → set (map f (range_with_len 0 count)) n v ≡ map g (range_with_len 0 count)
+pub map_range-set : {X : Type 0} (f g : ℕ → X) (count n : ℕ) (v d : X) → n < count → ((k : ℕ) → k ≢ n → k < count → f k ≡ g k) → v ≡ g n
+    → set (map f (range_with_len 0 count)) n v ≡ map g (range_with_len 0 count)
 map_range-set f g count n v d inside others here =
     let xs = map f (range_with_len 0 count) in
     let len = length-map-range_with_len f 0 count in
@@ -110,8 +113,10 @@ module _ (m : Map) (from to : Pos) (s : Stroke) where
   partly-none whole = Map-same m
       (map (mix 0 new_cells old_cells) (range_with_len 0 (cell_count m.size))) m.cells
       (map (mix 0 new_masks old_masks) (range_with_len 0 (cell_count m.size))) m.masks
-      (sym (fill_by_all (mix 0 new_cells old_cells) m.cells (cell_count m.size) Bad whole.cells (λ k h. sym (mix-from 0 new_cells old_cells k (omega arith) ∙ ap (λ i. get_or m.cells i Bad) (position_at-place m.size k whole.size.some_points)))))
-      (sym (fill_by_all (mix 0 new_masks old_masks) m.masks (cell_count m.size) false whole.masks (λ k h. sym (mix-from 0 new_masks old_masks k (omega arith) ∙ ap (λ i. get_or m.masks i false) (position_at-place m.size k whole.size.some_points)))))
+      (sym (fill_by_all (mix 0 new_cells old_cells) m.cells (cell_count m.size) Bad whole.cells
+      (λ k h. sym (mix-from 0 new_cells old_cells k (omega arith) ∙ ap (λ i. get_or m.cells i Bad) (position_at-place m.size k whole.size.some_points)))))
+      (sym (fill_by_all (mix 0 new_masks old_masks) m.masks (cell_count m.size) false whole.masks
+      (λ k h. sym (mix-from 0 new_masks old_masks k (omega arith) ∙ ap (λ i. get_or m.masks i false) (position_at-place m.size k whole.size.some_points)))))
 
   -- past the last index all is stroked
   pub partly-all : (n : ℕ) → cell_count m.size ≤ n → partly n ≡ stroked m from to s
@@ -126,12 +131,14 @@ module _ (m : Map) (from to : Pos) (s : Stroke) where
     pub partly-cell : cell_at (partly (place_of m.size at)) at ≡ cell_at m at
     partly-cell =
         let n = place_of m.size at in
-        get_or-map-range_with_len (mix n new_cells old_cells) 0 (cell_count m.size) n n Bad (place_inside m.size at inside) (omega arith) ∙ mix-from n new_cells old_cells n (omega arith) ∙ ap (cell_at m) (position_at-of m.size at inside)
+        get_or-map-range_with_len (mix n new_cells old_cells) 0 (cell_count m.size) n n Bad (place_inside m.size at inside) (omega arith)
+        ∙ mix-from n new_cells old_cells n (omega arith) ∙ ap (cell_at m) (position_at-of m.size at inside)
 
     pub partly-mask : mask_at (partly (place_of m.size at)) at ≡ mask_at m at
     partly-mask =
         let n = place_of m.size at in
-        get_or-map-range_with_len (mix n new_masks old_masks) 0 (cell_count m.size) n n false (place_inside m.size at inside) (omega arith) ∙ mix-from n new_masks old_masks n (omega arith) ∙ ap (mask_at m) (position_at-of m.size at inside)
+        get_or-map-range_with_len (mix n new_masks old_masks) 0 (cell_count m.size) n n false (place_inside m.size at inside) (omega arith)
+        ∙ mix-from n new_masks old_masks n (omega arith) ∙ ap (mask_at m) (position_at-of m.size at inside)
 
     -- once the point at the index is stroked, the index is one more
     pub partly-stroked : IsIn from to at → stroked_at s at (partly (place_of m.size at)) ≡ partly (place_of m.size at + 1)
@@ -142,7 +149,8 @@ module _ (m : Map) (from to : Pos) (s : Stroke) where
         Map-same m
         (set (partly n).cells n (cell_after s (cell_at (partly n) at) (mask_at (partly n) at))) (partly (n + 1)).cells
         (set (partly n).masks n (mask_after s (mask_at (partly n) at))) (partly (n + 1)).masks
-        (map_range-set (mix n new_cells old_cells) (mix (n + 1) new_cells old_cells) (cell_count m.size) n (cell_after s (cell_at (partly n) at) (mask_at (partly n) at)) Bad (place_inside m.size at inside)
+        (map_range-set (mix n new_cells old_cells) (mix (n + 1) new_cells old_cells) (cell_count m.size) n (cell_after s (cell_at (partly n) at) (mask_at (partly n) at)) Bad
+        (place_inside m.size at inside)
         (λ k other h. mix-other n new_cells old_cells k other)
         (ap (λ c. cell_after s c (mask_at (partly n) at)) partly-cell ∙ ap (cell_after s (cell_at m at)) partly-mask ∙ new_cell-here ∙ sym (mix-before (n + 1) new_cells old_cells n (omega arith))))
         (map_range-set (mix n new_masks old_masks) (mix (n + 1) new_masks old_masks) (cell_count m.size) n (mask_after s (mask_at (partly n) at)) false (place_inside m.size at inside)

@@ -81,7 +81,8 @@ impl<G: Grid> Board<G> {
     ///
     /// `Memory` comes where the element is refused its memory; then nothing is changed.
     pub fn define(&mut self, element: Element) -> Result<(), Memory>
-        ensures defined { OnOk result (self.new ≡ record self.old { elements = elements_with self.old.elements element }) }
+        ensures defined { OnOk result (self.new
+            ≡ record self.old { elements = elements_with self.old.elements element }) }
         ensures refused { OnErr result (self.new ≡ self.old) }
     {
         self.elements.define(self.alloc, element)?;

@@ -41,7 +41,8 @@ pub fn put_back<G: Grid>(grid: &mut G, entry: Entry)
 fn put_heights_back<G: Grid>(grid: &mut G, numbers: &Numbers)
     requires heights { let m = G.map grid.old in AreHeightsFor m.size m.data_type (heights_in numbers.now) }
     requires count { G.changes grid.old < 2 ^ 63 - 2 ^ 22 }
-    ensures map { let m = G.map grid.old in G.map grid.new ≡ with_cells m (cells_after m (heights_in numbers.now)) }
+    ensures map { let m = G.map grid.old in G.map grid.new
+        ≡ with_cells m (cells_after m (heights_in numbers.now)) }
     ensures origin { G.comes_from grid.old grid.new }
     ensures count { RisesUpTo (cell_count (G.map grid.old).size) (G.changes grid.old) (G.changes grid.new) }
 {

@@ -144,7 +144,8 @@ fn put_and_note<L: Lane, G: Grid>(
     numbers: &[L],
 ) -> Result<Notes, Memory>
     requires whole { length numbers.now ≡ cell_count (G.map grid.old).size }
-    requires of_type { let m = G.map grid.old in AreCellsOf m.data_type (cells_after m (values_of L.code numbers.now)) }
+    requires of_type { let m = G.map grid.old in AreCellsOf m.data_type
+        (cells_after m (values_of L.code numbers.now)) }
     requires count { G.changes grid.old < 2 ^ 62 }
     ensures memory { OnErr result (grid.new ≡ grid.old) }
     ensures map { let m = G.map grid.old in

@@ -83,11 +83,13 @@ fn stroke_point<G: Grid>(grid: &mut G, at: Pos, stroke: Stroke, notes: &mut NewN
     ensures before { let back = before_changes notes.old.changes (G.map grid.old) in
         before_changes notes.new.changes (G.map grid.new) ≡ back }
     ensures notes { All (IsChange (G.map grid.old)) notes.new.changes }
-    ensures len { length notes.new.changes ≡ length notes.old.changes + one_if_changed stroke (G.map grid.old) at }
+    ensures len { length notes.new.changes ≡ length notes.old.changes
+        + one_if_changed stroke (G.map grid.old) at }
     ensures room { notes.new.room ≡ notes.old.room }
     ensures origin { G.comes_from grid.old grid.new }
     ensures rises { G.changes grid.old ≤ G.changes grid.new }
-    ensures count { G.changes grid.new + length notes.old.changes ≤ G.changes grid.old + length notes.new.changes }
+    ensures count { G.changes grid.new + length notes.old.changes ≤ G.changes grid.old
+        + length notes.new.changes }
 {
     match effect_of(stroke, grid.data_type(), grid.cell(at), grid.masked(at)) {
         Some(Effect::Cell(new)) => change_cell(grid, at, new, notes),

@@ -99,7 +99,8 @@ fn note_told<L: Lane, G: Grid>(
     requires room { length notes.old.changes + length new.now ≤ notes.old.room }
     requires notes { All (IsChange (G.map grid.now)) notes.old.changes }
     ensures column { result ≤ length new.now }
-    ensures notes { let m = G.map grid.now in let becomes = with_heights m y (take result (values_of L.code new.now)) in
+    ensures notes { let m = G.map grid.now in let becomes = with_heights m y
+        (take result (values_of L.code new.now)) in
         AreNotedChanges m becomes result notes.old.changes notes.new.changes }
     ensures room { notes.new.room ≡ notes.old.room }
 {

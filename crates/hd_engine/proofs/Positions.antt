@@ -32,4 +32,5 @@ found_same p q e = parts_same p.x p.y q.x q.y (number_same p.x q.x (and_left (eq
 
 -- and others are two
 pub found_apart : (p q : Pos) → false ≡ (eqb p.x q.x && eqb p.y q.y) → p ≡ q → ⊥
-found_apart p q e same = not_both_true (eqb p.x q.x) (eqb p.y q.y) (subst (λ (r : Pos). eqb p.x r.x ≡ true) same (number_itself p.x)) (subst (λ (r : Pos). eqb p.y r.y ≡ true) same (number_itself p.y)) e
+found_apart p q e same = not_both_true (eqb p.x q.x) (eqb p.y q.y) (subst (λ (r : Pos). eqb p.x r.x ≡ true) same (number_itself p.x))
+    (subst (λ (r : Pos). eqb p.y r.y ≡ true) same (number_itself p.y)) e

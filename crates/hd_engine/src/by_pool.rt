@@ -42,10 +42,12 @@ pub(crate) fn find_by_pool<S: Side, G: Grid>(
     presence: &mut Option<Presence>,
     need: Need,
 ) -> Result<(), Memory>
-    requires follows { Follows (G.map tiles.now.grid) S.NAME tiles.now.tiling.side tiles.now.stamps.items pool.old }
+    requires follows { Follows (G.map tiles.now.grid) S.NAME tiles.now.tiling.side
+        tiles.now.stamps.items pool.old }
     requires findings { AreFindings (G.map tiles.now.grid) S.NAME findings.old }
     requires presence { ForSome presence.old (IsPresence (present_heights (G.map tiles.now.grid))) }
-    ensures follows { Follows (G.map tiles.now.grid) S.NAME tiles.now.tiling.side tiles.now.stamps.items pool.new }
+    ensures follows { Follows (G.map tiles.now.grid) S.NAME tiles.now.tiling.side
+        tiles.now.stamps.items pool.new }
     ensures findings { AreFindings (G.map tiles.now.grid) S.NAME findings.new }
     ensures presence { ForSome presence.new (IsPresence (present_heights (G.map tiles.now.grid))) }
 {
@@ -64,9 +66,12 @@ fn is_found<S: Side>(findings: &Findings<S>, need: Need) -> bool
     ensures regions { need ≡ Regions → result ≡ is_some findings.now.sizes }
     ensures merges { need ≡ Merges → result ≡ is_some findings.now.merges }
     ensures borders { need ≡ Borders → result ≡ is_some findings.now.merges }
-    ensures kept { (percent : APercent) → need ≡ Kept percent → IsTrue result ↔ (AreKeptAt percent.thousandths findings.now.kept ⊎ (is_some findings.now.merges ≡ true)) }
-    ensures pruning { (percent : APercent) → need ≡ Pruning percent → IsTrue result ↔ WasPrunedAt percent.thousandths findings.now.pruned }
-    ensures features { (percent : APercent) → need ≡ Features percent → IsTrue result ↔ AreFeaturesAt percent.thousandths findings.now.features }
+    ensures kept { (percent : APercent) → need ≡ Kept percent → IsTrue result
+        ↔ (AreKeptAt percent.thousandths findings.now.kept ⊎ (is_some findings.now.merges ≡ true)) }
+    ensures pruning { (percent : APercent) → need ≡ Pruning percent → IsTrue result
+        ↔ WasPrunedAt percent.thousandths findings.now.pruned }
+    ensures features { (percent : APercent) → need ≡ Features percent → IsTrue result
+        ↔ AreFeaturesAt percent.thousandths findings.now.features }
 {
     match need {
         Need::Regions => findings.has_sizes(),

@@ -10,7 +10,8 @@ use hd_sdf_write::{SdfPieces, masks_are_not_written};
 
 /// The pieces of the file of a surface.
 pub(crate) fn pieces_of<G: Grid>(surveyed: &Surveyed<G>) -> Result<SdfPieces<'_, G>, Memory>
-    ensures { IfOk result (λ pieces. pieces ≡ record { piece = []; left = canonical (saved_file surveyed.now.state) }) }
+    ensures { IfOk result (λ pieces. pieces ≡ record
+        { piece = []; left = canonical (saved_file surveyed.now.state) }) }
 {
     masks_are_not_written();
     let texts = surveyed.texts().borrowed();

@@ -28,11 +28,14 @@ pub fn show_label<S: Side, G: Grid>(
     number: u64,
     at: Pos,
 ) -> Result<Answer, Memory>
-    requires follows { let tiles = work.now.board.grid in Follows (G.map tiles.grid) S.NAME tiles.tiling.side tiles.stamps.items pool.old }
+    requires follows { let tiles = work.now.board.grid in Follows
+        (G.map tiles.grid) S.NAME tiles.tiling.side tiles.stamps.items pool.old }
     requires findings { AreFindings (G.map work.now.board.grid.grid) S.NAME findings.old }
-    ensures follows { let tiles = work.now.board.grid in Follows (G.map tiles.grid) S.NAME tiles.tiling.side tiles.stamps.items pool.new }
+    ensures follows { let tiles = work.now.board.grid in Follows
+        (G.map tiles.grid) S.NAME tiles.tiling.side tiles.stamps.items pool.new }
     ensures findings { AreFindings (G.map work.now.board.grid.grid) S.NAME findings.new }
-    ensures answer { let s = state_of (λ t. G.map t.grid) work.now in IfOk result (λ r. IsLabelAnswer s number S.NAME at (reply_of r) s) }
+    ensures answer { let s = state_of (λ t. G.map t.grid) work.now in IfOk result
+        (λ r. IsLabelAnswer s number S.NAME at (reply_of r) s) }
 {
     let tiles = work.board.grid();
     if !contains(tiles.tiling().size(), at) {
@@ -54,13 +57,16 @@ fn root_of<S: Side, G: Grid>(
     findings: &mut Findings<S>,
     at: Pos,
 ) -> Result<Pos, Memory>
-    requires follows { Follows (G.map tiles.now.grid) S.NAME tiles.now.tiling.side tiles.now.stamps.items pool.old }
+    requires follows { Follows (G.map tiles.now.grid) S.NAME tiles.now.tiling.side
+        tiles.now.stamps.items pool.old }
     requires findings { AreFindings (G.map tiles.now.grid) S.NAME findings.old }
     requires present { Present (G.map tiles.now.grid) at }
-    ensures follows { Follows (G.map tiles.now.grid) S.NAME tiles.now.tiling.side tiles.now.stamps.items pool.new }
+    ensures follows { Follows (G.map tiles.now.grid) S.NAME tiles.now.tiling.side
+        tiles.now.stamps.items pool.new }
     ensures findings { AreFindings (G.map tiles.now.grid) S.NAME findings.new }
     ensures present { IfOk result (Present (G.map tiles.now.grid)) }
-    ensures root { IfOk result (λ pit. IsRoot (G.map tiles.now.grid) S.NAME (rank (G.map tiles.now.grid) at) (rank (G.map tiles.now.grid) pit)) }
+    ensures root { IfOk result (λ pit. IsRoot (G.map tiles.now.grid) S.NAME
+        (rank (G.map tiles.now.grid) at) (rank (G.map tiles.now.grid) pit)) }
 {
     if findings.has_regions() {
         return root_by_map(alloc, tiles, pool, findings, at);
@@ -79,13 +85,16 @@ fn root_by_map<S: Side, G: Grid>(
     findings: &mut Findings<S>,
     at: Pos,
 ) -> Result<Pos, Memory>
-    requires follows { Follows (G.map tiles.now.grid) S.NAME tiles.now.tiling.side tiles.now.stamps.items pool.old }
+    requires follows { Follows (G.map tiles.now.grid) S.NAME tiles.now.tiling.side
+        tiles.now.stamps.items pool.old }
     requires findings { AreFindings (G.map tiles.now.grid) S.NAME findings.old }
     requires present { Present (G.map tiles.now.grid) at }
-    ensures follows { Follows (G.map tiles.now.grid) S.NAME tiles.now.tiling.side tiles.now.stamps.items pool.new }
+    ensures follows { Follows (G.map tiles.now.grid) S.NAME tiles.now.tiling.side
+        tiles.now.stamps.items pool.new }
     ensures findings { AreFindings (G.map tiles.now.grid) S.NAME findings.new }
     ensures present { IfOk result (Present (G.map tiles.now.grid)) }
-    ensures root { IfOk result (λ pit. IsRoot (G.map tiles.now.grid) S.NAME (rank (G.map tiles.now.grid) at) (rank (G.map tiles.now.grid) pit)) }
+    ensures root { IfOk result (λ pit. IsRoot (G.map tiles.now.grid) S.NAME
+        (rank (G.map tiles.now.grid) at) (rank (G.map tiles.now.grid) pit)) }
 {
     let mut spent = 0;
     let pit = findings.root(alloc, tiles, at, &mut spent)?;

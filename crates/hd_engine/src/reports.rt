@@ -63,7 +63,8 @@ pub(crate) fn report_regions<S: Side, G: Heights>(
 ) -> Result<List<u8>, Memory>
     requires { AreFindings (G.map grid.now) S.NAME findings.old }
     ensures findings { AreFindings (G.map grid.now) S.NAME findings.new }
-    ensures text { IfOk result (λ text. (regions : Items RegionSize) × AreRegionSizes (G.map grid.now) S.NAME regions
+    ensures text { IfOk result (λ text. (regions : Items RegionSize)
+        × AreRegionSizes (G.map grid.now) S.NAME regions
         × (text ≡ regions_text S.NAME (G.map grid.now).size regions)) }
 {
     findings.find_sizes(alloc, grid)?;
@@ -96,7 +97,8 @@ pub(crate) fn report_pruning<S: Side, G: Heights>(
 ) -> Result<List<u8>, Memory>
     requires { AreFindings (G.map grid.now) S.NAME findings.old }
     ensures findings { AreFindings (G.map grid.now) S.NAME findings.new }
-    ensures text { IfOk result (λ text. (steps : Items Leaving) × (kept : Items RegionSize) × ArePrunedRegions (G.map grid.now) S.NAME percent.thousandths steps kept
+    ensures text { IfOk result (λ text. (steps : Items Leaving) × (kept : Items RegionSize)
+        × ArePrunedRegions (G.map grid.now) S.NAME percent.thousandths steps kept
         × (text ≡ prune_text S.NAME percent.thousandths (G.map grid.now).size steps kept)) }
 {
     findings.find_pruned(alloc, grid, percent)?;
@@ -123,7 +125,8 @@ pub(crate) fn report_borders<S: Side, G: Heights>(
     requires findings { AreFindings (G.map grid.now) S.NAME findings.old }
     requires range { range ≡ range_of (present_heights (G.map grid.now)) }
     ensures findings { AreFindings (G.map grid.now) S.NAME findings.new }
-    ensures text { IfOk result (λ text. (lines : Items BorderLine) × ArePrunedLines (G.map grid.now) S.NAME percent.thousandths lines
+    ensures text { IfOk result (λ text. (lines : Items BorderLine)
+        × ArePrunedLines (G.map grid.now) S.NAME percent.thousandths lines
         × (text ≡ borders_text S.NAME percent.thousandths (G.map grid.now).size lines)) }
 {
     let lines = pruned_lines::<S, G>(alloc, grid, findings, percent, range)?;
@@ -142,7 +145,8 @@ pub(crate) fn report_audit<S: Side, G: Heights>(
     requires findings { AreFindings (G.map grid.now) S.NAME findings.old }
     requires range { range ≡ range_of (present_heights (G.map grid.now)) }
     ensures findings { AreFindings (G.map grid.now) S.NAME findings.new }
-    ensures text { IfOk result (λ text. (audit : Audit) × IsShown (G.map grid.now) S.NAME percent audit × (text ≡ audit_text audit)) }
+    ensures text { IfOk result (λ text. (audit : Audit)
+        × IsShown (G.map grid.now) S.NAME percent audit × (text ≡ audit_text audit)) }
 {
     findings.find_kept(alloc, grid, percent, range)?;
     let kept = findings.kept();
@@ -163,7 +167,8 @@ pub(crate) fn report_volumes<S: Side, G: Heights>(
     requires findings { AreFindings (G.map grid.now) S.NAME findings.old }
     requires range { range ≡ range_of (present_heights (G.map grid.now)) }
     ensures findings { AreFindings (G.map grid.now) S.NAME findings.new }
-    ensures text { IfOk result (λ text. (kept : Items Kept) × (volumes : Items (Maybe Frac)) × AreKeptAlone (G.map grid.now) S.NAME percent.thousandths kept
+    ensures text { IfOk result (λ text. (kept : Items Kept) × (volumes : Items (Maybe Frac))
+        × AreKeptAlone (G.map grid.now) S.NAME percent.thousandths kept
         × AreFills (G.map grid.now) S.NAME kept volumes × (fills : Items (Kept × Maybe Frac)) × AreWithVolumes kept volumes fills
         × (text ≡ fill_text S.NAME percent.thousandths (G.map grid.now).size fills)) }
 {

@@ -89,7 +89,8 @@ fn tell_saddle<S: Side, G: Heights>(
     requires findings { AreFindings (G.map grid.now) S.NAME findings.old }
     requires pits { AreTwoPits (G.map grid.now) S.NAME from to }
     ensures findings { AreFindings (G.map grid.now) S.NAME findings.new }
-    ensures text { IfOk result (λ text. (saddle : Maybe Point) × (c : Shown) × IsShownCertificate (G.map grid.now) S.NAME from to saddle c
+    ensures text { IfOk result (λ text. (saddle : Maybe Point) × (c : Shown)
+        × IsShownCertificate (G.map grid.now) S.NAME from to saddle c
         × (text ≡ certificate_text c)) }
 {
     // Both the merges and the first certificate are found by the regions, which are then given up: a script may have no
@@ -127,7 +128,8 @@ fn certificate_of<S: Side, G: Heights>(
     requires findings { AreFindings (G.map grid.now) S.NAME findings.old }
     requires merges { is_some findings.old.merges ≡ true }
     requires pits { AreTwoPits (G.map grid.now) S.NAME from to }
-    requires saddle { SaddleIs (G.map grid.now) S.NAME (rank (G.map grid.now) from) (rank (G.map grid.now) to) saddle }
+    requires saddle { SaddleIs (G.map grid.now) S.NAME (rank (G.map grid.now) from)
+        (rank (G.map grid.now) to) saddle }
     ensures findings { findings.new ≡ findings.old }
     ensures shown { IfOk result (IsShownCertificate (G.map grid.now) S.NAME from to saddle) }
 {

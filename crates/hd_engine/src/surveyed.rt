@@ -64,7 +64,8 @@ impl<G: Grid> Surveyed<G> {
         G: Drop,
         requires side { IsTileSide side }
         requires count { G.changes grid ≡ 0 }
-        ensures state { IfOk result (λ s. s.state ≡ record { read = texts_view texts; map = G.map grid; earlier = []; elements = [] }) }
+        ensures state { IfOk result (λ s. s.state
+            ≡ record { read = texts_view texts; map = G.map grid; earlier = []; elements = [] }) }
         ensures changes { IfOk result (λ s. s.changes ≡ 0) }
     {
         let tiles = Tiles::from_surface(alloc, grid, side)?;
@@ -129,7 +130,8 @@ impl<G: Grid> Surveyed<G> {
     fn obey(&mut self, number: u64, command: Command) -> Result<Answer, Memory>
         requires whole { IsWhole command }
         requires count { self.old.changes < 2 ^ 62 }
-        ensures ok { IfOk result (λ a. IsCommandAnswer self.old.state number command (reply_of a) self.new.state) }
+        ensures ok { IfOk result (λ a. IsCommandAnswer self.old.state number command
+            (reply_of a) self.new.state) }
         ensures memory { OnErr result (self.new.state ≡ self.old.state) }
         ensures changes { RisesUpTo (2 ^ 27) self.old.changes self.new.changes }
     {
@@ -155,7 +157,8 @@ impl<G: Grid> Surveyed<G> {
     fn report(&mut self, number: u64, command: &Command) -> Result<Answer, Memory>
         requires whole { IsWhole command.now }
         requires report { IsReport command.now }
-        ensures ok { IfOk result (λ a. IsCommandAnswer self.old.state number command.now (reply_of a) self.new.state) }
+        ensures ok { IfOk result (λ a. IsCommandAnswer self.old.state number command.now
+            (reply_of a) self.new.state) }
         ensures same { self.new ≡ self.old }
     {
         self.prepare(command)?;
@@ -188,7 +191,8 @@ impl<G: Grid> Surveyed<G> {
     fn tell_value(&mut self, number: u64, command: &Command) -> Result<Answer, Memory>
         requires whole { IsWhole command.now }
         requires value { AsksValue command.now }
-        ensures ok { IfOk result (λ a. IsCommandAnswer self.old.state number command.now (reply_of a) self.new.state) }
+        ensures ok { IfOk result (λ a. IsCommandAnswer self.old.state number command.now
+            (reply_of a) self.new.state) }
         ensures same { self.new ≡ self.old }
     {
         match command {
@@ -303,7 +307,8 @@ impl<G: Grid> Surveyed<G> {
 
     // Tells in which region of a side a point lies.
     fn label(&mut self, number: u64, side: SideName, at: Pos) -> Result<Answer, Memory>
-        ensures ok { IfOk result (λ a. IsLabelAnswer self.old.state number side at (reply_of a) self.new.state) }
+        ensures ok { IfOk result (λ a. IsLabelAnswer self.old.state number side at
+            (reply_of a) self.new.state) }
         ensures same { self.new ≡ self.old }
     {
         match side {
@@ -321,7 +326,8 @@ impl<G: Grid> Surveyed<G> {
     // Makes an edit. What was found is given up.
     fn edit(&mut self, number: u64, edit: &Edit) -> Result<Answer, Memory>
         requires { self.old.changes < 2 ^ 62 }
-        ensures ok { IfOk result (λ a. IsEditAnswer self.old.state number edit.now (reply_of a) self.new.state) }
+        ensures ok { IfOk result (λ a. IsEditAnswer self.old.state number edit.now
+            (reply_of a) self.new.state) }
         ensures memory { OnErr result (self.new.state ≡ self.old.state) }
         ensures changes { RisesUpTo (2 ^ 27) self.old.changes self.new.changes }
     {
@@ -345,7 +351,8 @@ impl<G: Grid> Surveyed<G> {
     // Sets which points are neighbours. What was found is given up.
     fn set_adjacency(&mut self, number: u64, adjacency: Adjacency) -> Result<Answer, Memory>
         requires { self.old.changes < 2 ^ 62 }
-        ensures ok { IfOk result (λ a. IsNeighboursAnswer self.old.state number adjacency (reply_of a) self.new.state) }
+        ensures ok { IfOk result (λ a. IsNeighboursAnswer self.old.state number adjacency
+            (reply_of a) self.new.state) }
         ensures memory { OnErr result (self.new.state ≡ self.old.state) }
         ensures changes { RisesUpTo (2 ^ 27) self.old.changes self.new.changes }
     {
@@ -364,7 +371,9 @@ impl<G: Grid> Surveyed<G> {
         table: List<Option<i64>>,
     ) -> Result<Answer, Memory>
         requires { IsTable width height table }
-        ensures ok { IfOk result (λ a. IsElementAnswer self.old.state number (record { name = name; width = width; height = height; table = table }) (reply_of a) self.new.state) }
+        ensures ok { IfOk result (λ a. IsElementAnswer self.old.state number
+            (record { name = name; width = width; height = height; table = table })
+            (reply_of a) self.new.state) }
         ensures memory { OnErr result (self.new.state ≡ self.old.state) }
         ensures changes { RisesUpTo (2 ^ 27) self.old.changes self.new.changes }
     {

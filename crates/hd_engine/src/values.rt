@@ -28,7 +28,9 @@ pub(crate) fn report_parameter<G: Heights>(
     requires survey { IsSurvey (G.map grid.now) survey.old }
     requires sum { IsSumOfMeans parameter.now }
     ensures survey { IsSurvey (G.map grid.now) survey.new }
-    ensures text { IfOk result (λ text. (value : _) × IsParameterValue (G.map grid.now) parameter.now value × (text ≡ param_line name.now height value)) }
+    ensures text { IfOk result (λ text. (value : _)
+        × IsParameterValue (G.map grid.now) parameter.now value
+        × (text ≡ param_line name.now height value)) }
 {
     let value = parameter_value(alloc, grid, survey, parameter)?;
     let text = tell_parameter(alloc, name, height, value)?;
@@ -45,7 +47,9 @@ pub(crate) fn report_feature<G: Heights>(
 ) -> Result<List<u8>, Memory>
     requires { IsSurvey (G.map grid.now) survey.old }
     ensures survey { IsSurvey (G.map grid.now) survey.new }
-    ensures text { IfOk result (λ text. (value : _) × IsNotationValue (G.map grid.now) notation.now value × (text ≡ feature_line word.now value)) }
+    ensures text { IfOk result (λ text. (value : _)
+        × IsNotationValue (G.map grid.now) notation.now value
+        × (text ≡ feature_line word.now value)) }
 {
     let value = notation_value(alloc, grid, survey, notation)?;
     let text = tell_feature(alloc, word, value)?;
@@ -63,7 +67,8 @@ pub(crate) fn report_height<G: Heights>(
 ) -> Result<List<u8>, Memory>
     requires { IsSurvey (G.map grid.now) survey.old }
     ensures survey { IsSurvey (G.map grid.now) survey.new }
-    ensures text { IfOk result (λ text. (value : _) × IsHeightValue (G.map grid.now) parameter value × (text ≡ height_line name.now c value)) }
+    ensures text { IfOk result (λ text. (value : _) × IsHeightValue (G.map grid.now) parameter value
+        × (text ≡ height_line name.now c value)) }
 {
     let sums = survey.height_sums(grid);
     let value = height_value_by(grid, &sums, parameter);
@@ -84,7 +89,9 @@ pub(crate) fn report_distribution<G: Heights>(
     requires some { 1 ≤ bins }
     requires few { bins ≤ 64 }
     ensures survey { IsSurvey (G.map grid.now) survey.new }
-    ensures text { IfOk result (λ text. (counts : _) × AreNotationCounts (G.map grid.now) notation.now bins counts × (text ≡ hist_line bins word.now counts)) }
+    ensures text { IfOk result (λ text. (counts : _)
+        × AreNotationCounts (G.map grid.now) notation.now bins counts
+        × (text ≡ hist_line bins word.now counts)) }
 {
     heights_alone_serve_distributions();
     let regions = notation_regions(alloc, grid, survey, notation)?;
@@ -104,7 +111,9 @@ pub(crate) fn report_share<G: Heights>(
 ) -> Result<List<u8>, Memory>
     requires { IsSurvey (G.map grid.now) survey.old }
     ensures survey { IsSurvey (G.map grid.now) survey.new }
-    ensures text { IfOk result (λ text. (share : _) × IsNotationShare (G.map grid.now) notation.now above share × (text ≡ perc_line above word.now share)) }
+    ensures text { IfOk result (λ text. (share : _)
+        × IsNotationShare (G.map grid.now) notation.now above share
+        × (text ≡ perc_line above word.now share)) }
 {
     heights_alone_serve_distributions();
     let regions = notation_regions(alloc, grid, survey, notation)?;

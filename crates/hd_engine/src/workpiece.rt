@@ -79,7 +79,8 @@ impl<G: Grid> Workpiece<G> {
     /// Makes an edit, once the memory for its answer is there.
     pub(crate) fn edit(&mut self, number: u64, edit: &Edit) -> Result<Answer, Memory>
         requires { G.changes self.old.board.grid < 2 ^ 62 }
-        ensures ok { IfOk result (λ a. IsEditAnswer (state_of G.map self.old) number edit.now (reply_of a) (state_of G.map self.new)) }
+        ensures ok { IfOk result (λ a. IsEditAnswer (state_of G.map self.old) number edit.now
+            (reply_of a) (state_of G.map self.new)) }
         ensures memory { OnErr result ((state_of G.map self.new) ≡ (state_of G.map self.old)) }
         ensures origin { G.comes_from self.old.board.grid self.new.board.grid }
         ensures count { RisesUpTo (2 ^ 27) (G.changes self.old.board.grid) (G.changes self.new.board.grid) }
@@ -103,7 +104,8 @@ impl<G: Grid> Workpiece<G> {
     /// Goes back over kept edits, once the memory for its answer is there.
     pub(crate) fn undo(&mut self, number: u64, count: u64) -> Result<Answer, Memory>
         requires { G.changes self.old.board.grid < 2 ^ 62 }
-        ensures ok { IfOk result (λ a. IsUndoAnswer (state_of G.map self.old) number count (reply_of a) (state_of G.map self.new)) }
+        ensures ok { IfOk result (λ a. IsUndoAnswer (state_of G.map self.old) number count
+            (reply_of a) (state_of G.map self.new)) }
         ensures memory { OnErr result ((state_of G.map self.new) ≡ (state_of G.map self.old)) }
         ensures origin { G.comes_from self.old.board.grid self.new.board.grid }
         ensures count { RisesUpTo (2 ^ 27) (G.changes self.old.board.grid) (G.changes self.new.board.grid) }
@@ -133,7 +135,9 @@ impl<G: Grid> Workpiece<G> {
         table: List<Option<i64>>,
     ) -> Result<Answer, Memory>
         requires { IsTable width height table }
-        ensures ok { IfOk result (λ a. IsElementAnswer (state_of G.map self.old) number (record { name = name; width = width; height = height; table = table }) (reply_of a) (state_of G.map self.new)) }
+        ensures ok { IfOk result (λ a. IsElementAnswer (state_of G.map self.old) number
+            (record { name = name; width = width; height = height; table = table }) (reply_of a)
+            (state_of G.map self.new)) }
         ensures memory { OnErr result ((state_of G.map self.new) ≡ (state_of G.map self.old)) }
         ensures grid { self.new.board.grid ≡ self.old.board.grid }
     {
@@ -162,7 +166,8 @@ impl<G: Grid> Workpiece<G> {
         adjacency: Adjacency,
     ) -> Result<Answer, Memory>
         requires { G.changes self.old.board.grid < 2 ^ 62 }
-        ensures ok { IfOk result (λ a. IsNeighboursAnswer (state_of G.map self.old) number adjacency (reply_of a) (state_of G.map self.new)) }
+        ensures ok { IfOk result (λ a. IsNeighboursAnswer (state_of G.map self.old) number adjacency
+            (reply_of a) (state_of G.map self.new)) }
         ensures memory { OnErr result ((state_of G.map self.new) ≡ (state_of G.map self.old)) }
         ensures origin { G.comes_from self.old.board.grid self.new.board.grid }
         ensures count { RisesUpTo (2 ^ 27) (G.changes self.old.board.grid) (G.changes self.new.board.grid) }
@@ -174,7 +179,8 @@ impl<G: Grid> Workpiece<G> {
 
     /// The answer that lists the elements.
     pub(crate) fn elements(&self) -> Result<Answer, Memory>
-        ensures { IfOk result (λ a. IsElementsAnswer (state_of G.map self.now) (reply_of a) (state_of G.map self.now)) }
+        ensures { IfOk result (λ a. IsElementsAnswer (state_of G.map self.now) (reply_of a)
+            (state_of G.map self.now)) }
     {
         let lines = self.board.elements()?;
         let text = list_elements(self.alloc, lines.as_slice())?;
@@ -183,7 +189,8 @@ impl<G: Grid> Workpiece<G> {
 
     /// The answer that tells the size, the type, the heights and the scales.
     pub(crate) fn info(&self) -> Result<Answer, Memory>
-        ensures { IfOk result (λ a. IsInfoAnswer (state_of G.map self.now) (reply_of a) (state_of G.map self.now)) }
+        ensures { IfOk result (λ a. IsInfoAnswer (state_of G.map self.now) (reply_of a)
+            (state_of G.map self.now)) }
     {
         let text = report_info(self.alloc, &self.texts, self.board.grid())?;
         Ok(Answer::with_text(text))
@@ -193,7 +200,8 @@ impl<G: Grid> Workpiece<G> {
     pub(crate) fn list<S: Side>(&self, findings: &mut Findings<S>) -> Result<Answer, Memory>
         requires { AreFindings (G.map self.now.board.grid) S.NAME findings.old }
         ensures findings { AreFindings (G.map self.now.board.grid) S.NAME findings.new }
-        ensures answer { IfOk result (λ a. IsRegionsAnswer (state_of G.map self.now) S.NAME (reply_of a) (state_of G.map self.now)) }
+        ensures answer { IfOk result (λ a. IsRegionsAnswer (state_of G.map self.now) S.NAME
+            (reply_of a) (state_of G.map self.now)) }
     {
         let text = report_regions::<S, G>(self.alloc, self.board.grid(), findings)?;
         Ok(Answer::with_text(text))
@@ -210,7 +218,8 @@ impl<G: Grid> Workpiece<G> {
     ) -> Result<Answer, Memory>
         requires { IsSurvey (G.map self.now.board.grid) survey.old }
         ensures survey { IsSurvey (G.map self.now.board.grid) survey.new }
-        ensures answer { IfOk result (λ r. IsSaddleAnswer (state_of G.map self.now) number side a b (reply_of r) (state_of G.map self.now)) }
+        ensures answer { IfOk result (λ r. IsSaddleAnswer (state_of G.map self.now) number side a b
+            (reply_of r) (state_of G.map self.now)) }
     {
         let grid = self.board.grid();
         match side {
@@ -237,7 +246,8 @@ impl<G: Grid> Workpiece<G> {
     pub(crate) fn tree<S: Side>(&self, findings: &mut Findings<S>) -> Result<Answer, Memory>
         requires { AreFindings (G.map self.now.board.grid) S.NAME findings.old }
         ensures findings { AreFindings (G.map self.now.board.grid) S.NAME findings.new }
-        ensures answer { IfOk result (λ a. IsTreeAnswer (state_of G.map self.now) S.NAME (reply_of a) (state_of G.map self.now)) }
+        ensures answer { IfOk result (λ a. IsTreeAnswer (state_of G.map self.now) S.NAME
+            (reply_of a) (state_of G.map self.now)) }
     {
         let text = report_tree::<S, G>(self.alloc, self.board.grid(), findings)?;
         Ok(Answer::with_text(text))
@@ -252,7 +262,9 @@ impl<G: Grid> Workpiece<G> {
     ) -> Result<Answer, Memory>
         requires { IsSurvey (G.map self.now.board.grid) survey.old }
         ensures survey { IsSurvey (G.map self.now.board.grid) survey.new }
-        ensures answer { IfOk result (λ a. IsPruneAnswer (state_of G.map self.now) side percent.thousandths (reply_of a) (state_of G.map self.now)) }
+        ensures answer { IfOk result (λ a. IsPruneAnswer
+            (state_of G.map self.now) side percent.thousandths (reply_of a)
+            (state_of G.map self.now)) }
     {
         let grid = self.board.grid();
         match side {
@@ -278,7 +290,9 @@ impl<G: Grid> Workpiece<G> {
     ) -> Result<Answer, Memory>
         requires { IsSurvey (G.map self.now.board.grid) survey.old }
         ensures survey { IsSurvey (G.map self.now.board.grid) survey.new }
-        ensures answer { IfOk result (λ a. IsBordersAnswer (state_of G.map self.now) side percent.thousandths (reply_of a) (state_of G.map self.now)) }
+        ensures answer { IfOk result (λ a. IsBordersAnswer
+            (state_of G.map self.now) side percent.thousandths (reply_of a)
+            (state_of G.map self.now)) }
     {
         let grid = self.board.grid();
         let range = survey.presence(grid).range;
@@ -305,7 +319,8 @@ impl<G: Grid> Workpiece<G> {
     ) -> Result<Answer, Memory>
         requires { IsSurvey (G.map self.now.board.grid) survey.old }
         ensures survey { IsSurvey (G.map self.now.board.grid) survey.new }
-        ensures answer { IfOk result (λ a. IsAuditAnswer (state_of G.map self.now) side percent (reply_of a) (state_of G.map self.now)) }
+        ensures answer { IfOk result (λ a. IsAuditAnswer (state_of G.map self.now) side percent
+            (reply_of a) (state_of G.map self.now)) }
     {
         let grid = self.board.grid();
         let range = survey.presence(grid).range;
@@ -332,7 +347,9 @@ impl<G: Grid> Workpiece<G> {
     ) -> Result<Answer, Memory>
         requires { IsSurvey (G.map self.now.board.grid) survey.old }
         ensures survey { IsSurvey (G.map self.now.board.grid) survey.new }
-        ensures answer { IfOk result (λ a. IsVolumesAnswer (state_of G.map self.now) side percent.thousandths (reply_of a) (state_of G.map self.now)) }
+        ensures answer { IfOk result (λ a. IsVolumesAnswer
+            (state_of G.map self.now) side percent.thousandths (reply_of a)
+            (state_of G.map self.now)) }
     {
         let grid = self.board.grid();
         let range = survey.presence(grid).range;
@@ -360,7 +377,9 @@ impl<G: Grid> Workpiece<G> {
     ) -> Result<Answer, Memory>
         requires { IsSurvey (G.map self.now.board.grid) survey.old }
         ensures survey { IsSurvey (G.map self.now.board.grid) survey.new }
-        ensures answer { IfOk result (λ a. IsParamAnswer (state_of G.map self.now) number name.now height (reply_of a) (state_of G.map self.now)) }
+        ensures answer { IfOk result (λ a. IsParamAnswer
+            (state_of G.map self.now) number name.now height (reply_of a)
+            (state_of G.map self.now)) }
     {
         match named(name, height) {
             Ok(parameter) => {
@@ -387,7 +406,8 @@ impl<G: Grid> Workpiece<G> {
     ) -> Result<Answer, Memory>
         requires { IsSurvey (G.map self.now.board.grid) survey.old }
         ensures survey { IsSurvey (G.map self.now.board.grid) survey.new }
-        ensures answer { IfOk result (λ a. IsFeatureAnswer (state_of G.map self.now) number word.now (reply_of a) (state_of G.map self.now)) }
+        ensures answer { IfOk result (λ a. IsFeatureAnswer (state_of G.map self.now) number word.now
+            (reply_of a) (state_of G.map self.now)) }
     {
         match read_notation(word) {
             Ok(notation) => {
@@ -408,7 +428,8 @@ impl<G: Grid> Workpiece<G> {
     ) -> Result<Answer, Memory>
         requires { IsSurvey (G.map self.now.board.grid) survey.old }
         ensures survey { IsSurvey (G.map self.now.board.grid) survey.new }
-        ensures answer { IfOk result (λ a. IsHeightAnswer (state_of G.map self.now) number name.now c (reply_of a) (state_of G.map self.now)) }
+        ensures answer { IfOk result (λ a. IsHeightAnswer
+            (state_of G.map self.now) number name.now c (reply_of a) (state_of G.map self.now)) }
     {
         match height_name(name, c) {
             Ok(parameter) => {
@@ -432,7 +453,8 @@ impl<G: Grid> Workpiece<G> {
         requires few { bins ≤ 64 }
         requires survey { IsSurvey (G.map self.now.board.grid) survey.old }
         ensures survey { IsSurvey (G.map self.now.board.grid) survey.new }
-        ensures answer { IfOk result (λ a. IsHistAnswer (state_of G.map self.now) number bins word.now (reply_of a) (state_of G.map self.now)) }
+        ensures answer { IfOk result (λ a. IsHistAnswer
+            (state_of G.map self.now) number bins word.now (reply_of a) (state_of G.map self.now)) }
     {
         match read_without_statistic(word) {
             Ok(notation) => {
@@ -454,7 +476,9 @@ impl<G: Grid> Workpiece<G> {
     ) -> Result<Answer, Memory>
         requires { IsSurvey (G.map self.now.board.grid) survey.old }
         ensures survey { IsSurvey (G.map self.now.board.grid) survey.new }
-        ensures answer { IfOk result (λ a. IsPercAnswer (state_of G.map self.now) number above word.now (reply_of a) (state_of G.map self.now)) }
+        ensures answer { IfOk result (λ a. IsPercAnswer
+            (state_of G.map self.now) number above word.now (reply_of a)
+            (state_of G.map self.now)) }
     {
         match read_without_statistic(word) {
             Ok(notation) => {

@@ -76,7 +76,8 @@ count_keys r (x ∷ xs) = sum_by-cons _ (key_of x) (map key_of xs) ∙ ap (λ n.
 
 -- a region is among the first exactly where the last of them, around which the keys are split, is not
 -- ahead of its own
-pub is_among-first : (regions : List Region) (front : List RegionKey) (last : RegionKey) (back : List RegionKey) (n : ℕ) (r : Region) → IsPermutation (map key_of regions) (front ++ last ∷ back) → IsSplitAroundBy is_ahead front last back → n ≡ length front + 1
+pub is_among-first : (regions : List Region) (front : List RegionKey) (last : RegionKey) (back : List RegionKey) (n : ℕ) (r : Region)
+    → IsPermutation (map key_of regions) (front ++ last ∷ back) → IsSplitAroundBy is_ahead front last back → n ≡ length front + 1
     → is_among regions n r ≡ (nat_lt 0 n && is_within (key_of r) (Some last))
 is_among-first regions front last back n r permuted split count =
     ap (λ x. nat_lt x n) (sym (count_keys r regions) ∙ sym (sum_by-IsPermutation _ (map key_of regions) (front ++ last ∷ back) permuted))

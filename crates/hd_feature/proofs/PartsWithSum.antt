@@ -22,7 +22,8 @@ onto_followed : (x : ℕ) (parts : List (List ℕ)) → 0 < length parts → ont
 onto_followed x [] some = absurd (omega arith)
 onto_followed x (part ∷ parts) some = refl
 
-split_followed : (b : Bool) (x : ℕ) (parts more : List (List ℕ)) → 0 < length parts → more ≡ followed parts → cond b ([] ∷ more) (onto_first x more) ≡ followed (cond b ([] ∷ parts) (onto_first x parts))
+split_followed : (b : Bool) (x : ℕ) (parts more : List (List ℕ)) → 0 < length parts → more ≡ followed parts
+    → cond b ([] ∷ more) (onto_first x more) ≡ followed (cond b ([] ∷ parts) (onto_first x parts))
 split_followed true x parts more some e = ap (λ ps. [] ∷ ps) e
 split_followed false x parts more some e = ap (onto_first x) e ∙ onto_followed x parts some
 
@@ -40,7 +41,8 @@ part-followed : {A B : Type 0} (number : ℕ) (form : List ℕ → Option A) →
 part-followed number form none [] make = ap (λ o. and_then (read_or_bad number o) (λ x. make x [])) none
 part-followed number form none (text ∷ more) make = refl
 
-pub part-read_followed : {A : Type 0} (number : ℕ) (form : List ℕ → Option A) (parts : List (List ℕ)) (result : Result (A × Option (Bor (List ℕ))) NotationError) → form sum_part ≡ None → Reads number form parts result
+pub part-read_followed : {A : Type 0} (number : ℕ) (form : List ℕ → Option A) (parts : List (List ℕ)) (result : Result (A × Option (Bor (List ℕ))) NotationError)
+    → form sum_part ≡ None → Reads number form parts result
     → (make : A → List (List ℕ) → Result Notation NotationError) → part number form (followed parts) make ≡ and_then result (λ p. make p.0 (followed (parts_left p.1)))
 part-read_followed number form parts result none reads make = part-followed number form none parts make ∙ reads (λ x more. make x (followed more))
 

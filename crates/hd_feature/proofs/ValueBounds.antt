@@ -1,5 +1,6 @@
 -- How great sums and means are.
-use Rattle.std.proofs.Common.{◌≡◌, ℕ, ℤ, pos, ◌+◌, ◌*◌, ◌<◌, ◌≤◌, ◌+ℤ◌, unsigned_abs, List, [], ◌∷◌, length, map, filter, fold, All, Bool, le_trans, mul-le-mul_right, suc-mul, subst, subst₂, arith, zero-add}
+use Rattle.std.proofs.Common.{◌≡◌, ℕ, ℤ, pos, ◌+◌, ◌*◌, ◌<◌, ◌≤◌, ◌+ℤ◌, unsigned_abs, List, [], ◌∷◌, length, map, filter, fold, All, Bool, le_trans}
+use Rattle.std.proofs.Common.{mul-le-mul_right, suc-mul, subst, subst₂, arith, zero-add}
 use Rattle.std.proofs.lemmas.Int.{ints}
 use Rattle.std.proofs.lemmas.List.{length-map}
 use Rattle.std.proofs.lemmas.List.Elements.{All-filter, All-head, All-map, All-tail}

@@ -46,7 +46,8 @@ pub fn without_height<T: Copy + Drop>(parameter: T, c: Option<i64>) -> Result<T,
 
 // The mean area of the hills or the dales that are closed at a height.
 fn closed_area(kind: Kind, c: Option<i64>) -> Result<Parameter, NotationError>
-    ensures { result ≡ given (AtHeight (λ c. parameter.One (pruned kind (significance.Closed c) attribute.AreaE statistic.Mean))) c }
+    ensures { result ≡ given (AtHeight (λ c. parameter.One
+        (pruned kind (significance.Closed c) attribute.AreaE statistic.Mean))) c }
 {
     match c {
         None => Err(NotationError::NeedsHeight),

@@ -112,7 +112,8 @@ fn is_within(key: RegionKey, cut: Option<RegionKey>) -> bool
 
 // The key of the last of so many regions, and none where there are fewer.
 fn last_of(alloc: Global, number: u32, regions: &[Region]) -> Result<Option<RegionKey>, Memory>
-    ensures { IfOk result (λ cut. (r : Region) → is_among regions.now number r ≡ (nat_lt 0 number && is_within (key_of r) cut)) }
+    ensures { IfOk result (λ cut. (r : Region)
+        → is_among regions.now number r ≡ (nat_lt 0 number && is_within (key_of r) cut)) }
 {
     let count = number as usize;
     if count == 0 || regions.len() < count {

@@ -59,7 +59,9 @@ fn add_significant(
     region: &Region,
 ) -> Result<(), Memory>
     requires { region.now.points ≤ 4194304 }
-    ensures { OnOk result (values.new.items ≡ values.old.items ++ (if significant_by notation.now.kind notation.now.significance cut region.now then (attribute notation.now.attribute region.now ∷ []) else [])) }
+    ensures { OnOk result (values.new.items ≡ values.old.items
+        ++ (if significant_by notation.now.kind notation.now.significance cut
+        region.now then (attribute notation.now.attribute region.now ∷ []) else [])) }
 {
     if is_significant(notation.kind, notation.significance, cut, region) {
         values.push(attribute(notation.attribute, region))?;

@@ -108,7 +108,8 @@ module _ (old new : List ℕ) (a b first second : ℕ) (found : AreLeastsOf old 
   one-class e = class-trans new a first b found.one (class-sym new b first (subst (λ k. AreOneClass new b k) (sym e) found.other))
 
   pub two-classes : first ≢ second → AreOneClass new a b → ⊥
-  two-classes apart h = apart (least-same new first second found.first_least found.second_least (class-trans new first a second (class-sym new a first found.one) (class-trans new a b second h found.other)))
+  two-classes apart h = apart (least-same new first second found.first_least found.second_least
+      (class-trans new first a second (class-sym new a first found.one) (class-trans new a b second h found.other)))
 
 -- of two least numbers one gets the other as its parent
 module _ (parents : List ℕ) (first second : ℕ) (least_first : slice_get parents first ≡ Some first) (least_second : slice_get parents second ≡ Some second)
@@ -148,7 +149,8 @@ module _ (parents : List ℕ) (first second : ℕ) (least_first : slice_get pare
   stays_joined : (p q : ℕ) → AreJoined parents first second p q → AreOneClass (set parents x y) p q
   stays_joined p q (inl h) = still p q h
   stays_joined p q (inr (inl e)) = subst (λ k. AreOneClass (set parents x y) k q) (sym e.0) (subst (λ k. AreOneClass (set parents x y) first k) (sym e.1) linked)
-  stays_joined p q (inr (inr e)) = subst (λ k. AreOneClass (set parents x y) k q) (sym e.0) (subst (λ k. AreOneClass (set parents x y) second k) (sym e.1) (class-sym (set parents x y) first second linked))
+  stays_joined p q (inr (inr e)) = subst (λ k. AreOneClass (set parents x y) k q) (sym e.0)
+      (subst (λ k. AreOneClass (set parents x y) second k) (sym e.1) (class-sym (set parents x y) first second linked))
 
   pub joins-set : Joins parents first second (set parents x y)
   joins-set u v = (λ h. reach-by (AreNext (set parents x y)) (AreJoined parents first second) edge h, λ h. reach-by (AreJoined parents first second) (AreNext (set parents x y)) stays_joined h)
@@ -199,4 +201,8 @@ module _ (old parents new : List ℕ) (a b first second : ℕ) (same : AreSame o
       way = step (inl ((same a first).1 one)) (step (inr (inl (refl, refl))) (step (inl ((same second b).1 (class-sym old b second other))) here))
 
   pub joins-as : Joins parents first second new → Joins old a b new
-  joins-as joins x y = (λ h. reach-by (AreJoined parents first second) (AreJoined old a b) forth ((joins x y).0 h), λ h. (joins x y).1 (reach-by (AreJoined old a b) (AreJoined parents first second) back h))
+  joins-as joins x y = (
+    λ h. reach-by (AreJoined parents first second) (AreJoined old a b) forth ((joins x y).0 h),
+    λ h. (joins x y).1
+        (reach-by (AreJoined old a b) (AreJoined parents first second) back h),
+  )

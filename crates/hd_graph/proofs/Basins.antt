@@ -39,11 +39,16 @@ module _ (m : Map) (side : SideName) (In : Rank → Rank → Type 0) where
   meeting-sym a b w h = record { from = h.to; to = h.from; near = near-sym m h.from h.to h.near; from_in = h.to_in; to_in = h.from_in; higher = h.higher ∙ higher-sym side h.from h.to }
 
   -- where two basins meet, a pass at their lowest meeting joins them
-  pass_along : (passes : List Pass) → ArePasses m side In passes → (a b u : Rank) → below_by side a b ≡ true → IsMeeting m side In a b u → (w : Rank) × Contains passes (record { a = a; b = b; at = w }) × IsNotAbove (below_by side) w u
+  pass_along : (passes : List Pass) → ArePasses m side In passes → (a b u : Rank) → below_by side a b ≡ true → IsMeeting m side In a b u → (w : Rank)
+      × Contains passes (record { a = a; b = b; at = w }) × IsNotAbove (below_by side) w u
   pass_along passes right a b u low meet =
       let p = right.all a b u low meet in
-      let is : p.0 ≡ record { a = a; b = b; at = (p.0).at } = same_pass p.0 a b p.2 p.3 in
-      ((p.0).at, subst (λ (q : Pass). Contains passes q) is p.1, (right.each p.0 p.1).lowest u (subst (λ v. IsMeeting m side In v (p.0).b u) (sym p.2) (subst (λ v. IsMeeting m side In a v u) (sym p.3) meet)))
+      let is : p.0 ≡ record { a = a; b = b; at = (p.0).at } = same_pass p.0 a b p.2 p.3 in (
+        (p.0).at,
+        subst (λ (q : Pass). Contains passes q) is p.1,
+        (right.each p.0 p.1).lowest u
+            (subst (λ v. IsMeeting m side In v (p.0).b u) (sym p.2) (subst (λ v. IsMeeting m side In a v u) (sym p.3) meet)),
+      )
     where
       same_pass : (q : Pass) (x y : Rank) → q.a ≡ x → q.b ≡ y → q ≡ record { a = x; b = y; at = q.at }
       same_pass q x y e f = ap (λ v. record { a = v; b = q.b; at = q.at }) e ∙ ap (λ v. record { a = x; b = v; at = q.at }) f
@@ -132,7 +137,8 @@ module _ (m : Map) (side : SideName) (In : Rank → Rank → Type 0) (basins : A
         let bounds = higher-bounds side x y in
         let hx : IsNotAbove (below_by side) x t = not_above-trans (below_by side) (below_by-order side) x (higher_by side x y) t bounds.0 low in
         let hy : IsNotAbove (below_by side) y t = not_above-trans (below_by side) (below_by-order side) y (higher_by side x y) t bounds.1 low in
-        reach-trans (PointStep (Near m) (below_by side) t) (reach-sym (PointStep (Near m) (below_by side) t) (points-both (Near m) (below_by side) (below_by-order side) (near-sym m) t) (basin-settled t x a hx meet.from_in))
+        reach-trans (PointStep (Near m) (below_by side) t) (reach-sym (PointStep (Near m) (below_by side) t)
+        (points-both (Near m) (below_by side) (below_by-order side) (near-sym m) t) (basin-settled t x a hx meet.from_in))
         (step (meet.near, hx, hy) (basin-settled t y b hy meet.to_in))
 
     passes_made : (t : Rank) {a b : Rank} → Reach (PassStep (below_by side) passes t) a b → Reach (PointStep (Near m) (below_by side) t) a b
@@ -176,7 +182,8 @@ module _ (m : Map) (side : SideName) (In : Rank → Rank → Type 0) (basins : A
       least-is_saddle None = (
         λ none xs path.
             let v = top_of (below_by side) (below_by-order side) a xs in
-            let w = walk-from_reach (below_by side) (below_by-order side) passes v.0 (lows-joined v.0 (reach-from_path (Near m) (below_by side) (below_by-order side) v.0 a b xs path.leads v.1.none_above) a b own own') in
+            let w = walk-from_reach (below_by side) (below_by-order side) passes v.0
+            (lows-joined v.0 (reach-from_path (Near m) (below_by side) (below_by-order side) v.0 a b xs path.leads v.1.none_above) a b own own') in
             none w.0 w.1,
         λ none ss walk.
             let v = walk_top (below_by side) (below_by-order side) passes a b ss apart walk in
@@ -228,6 +235,7 @@ module _ (m : Map) (side : SideName) (In : Rank → Rank → Type 0) (basins : A
         pits = pits_on;
         saddles = λ i j x y less atx aty px py.
             let apart : x.low ≢ y.low = λ e. (let n = one_place (λ (z : Stop). z.low) line flooded.once i j x y atx aty e in omega arith) in
-            (least-is_saddle x.low y.low (of.low (record { rank = x.low; pit = x.pit }) (low_at i x atx)) (of.low (record { rank = y.low; pit = y.pit }) (low_at j y aty)) apart (rise_between (below_by side) line i j)).0
+            (least-is_saddle x.low y.low (of.low (record { rank = x.low; pit = x.pit }) (low_at i x atx)) (of.low (record { rank = y.low; pit = y.pit }) (low_at j y aty)) apart
+            (rise_between (below_by side) line i j)).0
             (flooded.tells i j x y less atx aty);
       }

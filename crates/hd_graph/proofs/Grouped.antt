@@ -193,7 +193,8 @@ module _ (below : Rank → Rank → Bool) (order : IsStrictOrder below) where
           | inl old ↦ so.filled y (in_joins y (Contains-append_left front (x ∷ []) y old))
           | inr last ↦ subst (λ (z : Joining). (r : Rank) × Contains z.parts r) last (e.low, with_low-new e.low x.parts)
         ];
-        in_order = all_pairs_push (λ (a : Joining) (b : Joining). below a.saddle b.saddle ≡ true) front (grown below x e) (front-pairs (λ (a : Joining) (b : Joining). below a.saddle b.saddle ≡ true) front x ordered)
+        in_order = all_pairs_push (λ (a : Joining) (b : Joining). below a.saddle b.saddle ≡ true) front (grown below x e)
+            (front-pairs (λ (a : Joining) (b : Joining). below a.saddle b.saddle ≡ true) front x ordered)
             (λ k d lt. last-pairs (λ (a : Joining) (b : Joining). below a.saddle b.saddle ≡ true) front x (get_or front k d) ordered (Contains-get_or front k d lt));
         parts_in_order = λ y h. elim (Contains-push_cases front (grown below x e) y h) [
           | inl old ↦ so.parts_in_order y (in_joins y (Contains-append_left front (x ∷ []) y old))
@@ -246,7 +247,8 @@ module _ (below : Rank → Rank → Bool) (order : IsStrictOrder below) where
       AreGrouped below (rise_parts (take (n + 1) rises)) (with_part below (right_of (get_or rises n d)) (with_part below (left_of (get_or rises n d)) joins))
   grouped-more rises sorted n d inside joins so =
       subst (λ ps. AreGrouped below ps (with_part below (right_of x) (with_part below (left_of x) joins))) (sym next)
-      (grouped-with (before ++ left_of x ∷ []) (right_of x) (with_part below (left_of x) joins) (grouped-with before (left_of x) joins so after) (λ f at. elim (Contains-push_cases before (left_of x) f at) [
+      (grouped-with (before ++ left_of x ∷ []) (right_of x) (with_part below (left_of x) joins) (grouped-with before (left_of x) joins so after)
+      (λ f at. elim (Contains-push_cases before (left_of x) f at) [
         | inl was ↦ after f was
         | inr new ↦ subst (λ (g : Part). below x.saddle g.saddle ≡ false) new (order.irreflexive x.saddle)
       ]))

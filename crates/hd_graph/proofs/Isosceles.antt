@@ -15,14 +15,16 @@ use Rattle.hd_map.proofs.Higher.{higher-bounds, higher-least}
 
 module _ (m : Map) (side : SideName) where
   -- where the saddles of a and b and of b and c are not above w, that of a and c is not above it
-  pub saddle-through : (a b c u s w : Rank) → IsSaddle m side a b u → IsSaddle m side b c s → IsNotAbove (below_by side) u w → IsNotAbove (below_by side) s w → (v : Rank) × IsSaddle m side a c v × IsNotAbove (below_by side) v w
+  pub saddle-through : (a b c u s w : Rank) → IsSaddle m side a b u → IsSaddle m side b c s → IsNotAbove (below_by side) u w → IsNotAbove (below_by side) s w → (v : Rank)
+      × IsSaddle m side a c v × IsNotAbove (below_by side) v w
   saddle-through a b c u s w near far low low' =
       let below = below_by side in
       let order = below_by-order side in
       let l = level-from_saddle m side a b u near in
       let k = level-from_saddle m side b c s far in
       let from : IsNotAbove below a w = not_above-trans below order a u w l.from_low low in
-      let joined : Reach (PointStep (Near m) below w) a c = reach-trans (PointStep (Near m) below w) (reach-higher (Near m) below order u w low l.joined) (reach-higher (Near m) below order s w low' k.joined) in
+      let joined : Reach (PointStep (Near m) below w) a c = reach-trans (PointStep (Near m) below w) (reach-higher (Near m) below order u w low l.joined)
+      (reach-higher (Near m) below order s w low' k.joined) in
       let path = path-from_reach (Near m) below order w from joined in
       let is = saddle-exists m side a c path.0 (record { point = near.reached.1.point; leads = path.1 }) in
       (is.0, is.1, (level-from_saddle m side a c is.0 is.1).least w from joined)
@@ -40,7 +42,8 @@ module _ (m : Map) (side : SideName) where
       subst (λ z. IsSaddle m side a c z) (order.total v.0 s up v.2) v.1
 
   -- where the saddle of a and c is not below that of a and b, it is the higher of that and the one of b and c
-  pub saddle-higher : (a b c u s : Rank) → IsSaddle m side a b u → IsSaddle m side b c s → ((v : Rank) → IsSaddle m side a c v → IsNotAbove (below_by side) u v) → IsSaddle m side a c (higher_by side u s)
+  pub saddle-higher : (a b c u s : Rank) → IsSaddle m side a b u → IsSaddle m side b c s → ((v : Rank) → IsSaddle m side a c v → IsNotAbove (below_by side) u v)
+      → IsSaddle m side a c (higher_by side u s)
   saddle-higher a b c u s near far over =
       let order = below_by-order side in
       let high = higher-bounds side u s in

@@ -51,7 +51,8 @@ module _ (links : List Link) (count : ℕ) where
       onward ≡ replicate count (length links) → LeadsSoFar 0 parents parts onward
   leads-none parents parts onward own wide alone all = record {
     connected = connected-none links 0 parents own;
-    tops = λ r e least at. (let inside = slice_get_within parts r e at in let is = alone r e at in record { x = r; t = 0; part = inl (omega (arith, inside, wide, is), is, refl); seen = omega arith; one = here; whole = joined_own r });
+    tops = λ r e least at. (let inside = slice_get_within parts r e at in let is = alone r e at in
+        record { x = r; t = 0; part = inl (omega (arith, inside, wide, is), is, refl); seen = omega arith; one = here; whole = joined_own r });
     each = λ e x t p part at. elim part [
       | inl h ↦ inr (record {
         none = sym (get_or_from_slice_get onward e p 0 at) ∙ ap (λ xs. get_or xs e 0) all ∙ get_or-replicate count e (length links) 0 h.0;
@@ -72,7 +73,15 @@ module _ (links : List Link) (count : ℕ) where
   leads-same : (n : ℕ) (old new parts onward : List ℕ) → AreSame old new → ((x : ℕ) → IsLeast new x → IsLeast old x) → LeadsSoFar n old parts onward → LeadsSoFar n new parts onward
   leads-same n old new parts onward same leasts so = record {
     connected = connected-same links n old new same so.connected;
-    tops = λ r e least at. (let h = so.tops r e (leasts r least) at in record { x = h.x; t = h.t; part = h.part; seen = h.seen; one = (same r h.x).1 h.one; whole = λ v one. h.whole v ((same h.x v).0 one) });
+    tops = λ r e least at. (let h = so.tops r e (leasts r least) at in record {
+      x = h.x;
+      t = h.t;
+      part = h.part;
+      seen = h.seen;
+      one = (same r h.x).1 h.one;
+      whole =
+          λ v one. h.whole v ((same h.x v).0 one);
+    });
     each = λ e x t p part at. elim (so.each e x t p part at) [
       | inl h ↦ inl h
       | inr h ↦ inr (record { none = h.none; top = λ r least one. h.top r (leasts r least) ((same r x).0 one); whole = λ v one. h.whole v ((same x v).0 one) })
@@ -99,7 +108,8 @@ module _ (links : List Link) (count : ℕ) where
   top-inside n parents r e top = (let seen = top.seen in elim (top.part) [ inl h ↦ (let less = h.0 in omega arith) | inr h ↦ omega (arith, h.3, h.5, seen) ])
 
   -- a link within a class leads on from no part
-  pub leads-skip : (n : ℕ) (was parents parts onward : List ℕ) → length onward ≡ count + n → (l : Link) (first second : ℕ) → slice_get links n ≡ Some l → AreLeastsOf was parents l.a l.b first second → first ≡ second → LeadsSoFar n was parts onward → LeadsSoFar (n + 1) parents parts (onward ++ length links ∷ [])
+  pub leads-skip : (n : ℕ) (was parents parts onward : List ℕ) → length onward ≡ count + n → (l : Link) (first second : ℕ) → slice_get links n ≡ Some l
+      → AreLeastsOf was parents l.a l.b first second → first ≡ second → LeadsSoFar n was parts onward → LeadsSoFar (n + 1) parents parts (onward ++ length links ∷ [])
   leads-skip n was parents parts onward long l first second at found same so = record {
     connected = connected-next links n l at parents one now.connected;
     tops = λ r e least there. (let h = now.tops r e least there in record { x = h.x; t = h.t; part = h.part; seen = (let seen = h.seen in omega arith); one = h.one; whole = h.whole });
@@ -122,8 +132,11 @@ module _ (links : List Link) (count : ℕ) where
       one = one-class was parents l.a l.b first second found same
 
   -- the next link joins the classes of first and second, which are the parts d and e
-  module _ (n : ℕ) (was old parts onward : List ℕ) (so : LeadsSoFar n was parts onward) (l : Link) (at : slice_get links n ≡ Some l) (first second : ℕ) (found : AreLeastsOf was old l.a l.b first second) (not_same : first ≢ second) (long : length onward ≡ count + n) (d e : ℕ) (at_first : slice_get parts first ≡ Some d) (at_second : slice_get parts second ≡ Some e)
-      (new : List ℕ) (r : ℕ) (joins : Joins old first second new) (in_one : AreOneClass new first r) (least : IsLeast new r) (leasts : (k : ℕ) → IsLeast new k → IsLeast old k) (inside : r < length parts) where
+  module _ (n : ℕ) (was old parts onward : List ℕ) (so : LeadsSoFar n was parts onward) (l : Link) (at : slice_get links n ≡ Some l) (first second : ℕ)
+      (found : AreLeastsOf was old l.a l.b first second) (not_same : first ≢ second) (long : length onward ≡ count + n) (d e : ℕ) (at_first : slice_get parts first ≡ Some d)
+      (at_second : slice_get parts second ≡ Some e)
+      (new : List ℕ) (r : ℕ) (joins : Joins old first second new) (in_one : AreOneClass new first r) (least : IsLeast new r) (leasts : (k : ℕ) → IsLeast new k → IsLeast old k)
+      (inside : r < length parts) where
     now : LeadsSoFar n old parts onward
     now = leads-same n was old parts onward found.same (λ x h. (found.leasts x).0 h) so
 
@@ -203,7 +216,15 @@ module _ (links : List Link) (count : ℕ) where
     top_more : (q c : ℕ) → IsLeast new q → slice_get more q ≡ Some c → IsTop (n + 1) new q c
     unfolding more
     top_more q c least_q there = elim (get-set_cases parts r q (count + n) c there) [
-      | inl h ↦ record { x = l.a; t = n + 1; part = subst (λ i. IsPart links count i l.a (n + 1)) h.1 new_part; seen = omega arith; one = subst (λ i. AreOneClass new i l.a) h.0 (class-sym new l.a r a_new); whole = λ v k. connected.linked l.a v k }
+      | inl h ↦ record {
+        x = l.a;
+        t = n + 1;
+        part = subst (λ i. IsPart links count i l.a
+            (n + 1)) h.1 new_part;
+        seen = omega arith;
+        one = subst (λ i. AreOneClass new i l.a) h.0 (class-sym new l.a r a_new);
+        whole = λ v k. connected.linked l.a v k;
+      }
       | inr h ↦ (let top = now.tops q c (leasts q least_q) h.1 in record {
         x = top.x;
         t = top.t;
@@ -223,9 +244,17 @@ module _ (links : List Link) (count : ℕ) where
       connected = connected;
       tops = top_more;
       each = λ c x t p part there. elim (get-set_cases (set (onward ++ length links ∷ []) d n) e c n p there) [
-        | inl k ↦ inl (subst (λ i. (i < n + 1) × IsOnward links x t i) k.1 (omega arith, led second c x t (subst (IsTop n old second) k.0 (now.tops second e found.second_least at_second)) part (inr found.other)))
+        | inl k ↦ inl (subst (λ i. (i < n + 1) × IsOnward links x t i) k.1 (
+          omega arith,
+          led second c x t
+              (subst (IsTop n old second) k.0 (now.tops second e found.second_least at_second)) part (inr found.other),
+        ))
         | inr k ↦ elim (get-set_cases (onward ++ length links ∷ []) d c n p k.1) [
-          | inl j ↦ inl (subst (λ i. (i < n + 1) × IsOnward links x t i) j.1 (omega arith, led first c x t (subst (IsTop n old first) j.0 (now.tops first d found.first_least at_first)) part (inl found.one)))
+          | inl j ↦ inl (subst (λ i. (i < n + 1) × IsOnward links x t i) j.1 (
+            omega arith,
+            led first c x t
+                (subst (IsTop n old first) j.0 (now.tops first d found.first_least at_first)) part (inl found.one),
+          ))
           | inr j ↦ elim (get-push_cases onward (length links) p c j.1) [
             | inl h ↦ elim (now.each c x t p part h) [
               | inl was ↦ inl (let less = was.0 in omega arith, was.1)

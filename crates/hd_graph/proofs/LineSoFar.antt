@@ -33,7 +33,8 @@ stop-rank : (lows : List Low) (v : ℕ) (s : Stop) → IsStopFor lows v s → ra
 stop-rank lows v s h = ap (λ (x : Low). x.rank) (get_or_from_slice_get lows v (record { rank = s.low; pit = s.pit }) _ h)
 
 -- nothing is done yet
-pub line-none : (below : Rank → Rank → Bool) (lows : List Low) (passes : List Pass) (done : List Bool) → length done ≡ length lows → ((v : ℕ) → is_done done v ≡ true → ⊥) → IsLineSoFar below lows passes done []
+pub line-none : (below : Rank → Rank → Bool) (lows : List Low) (passes : List Pass) (done : List Bool) → length done ≡ length lows → ((v : ℕ) → is_done done v ≡ true → ⊥)
+    → IsLineSoFar below lows passes done []
 line-none below lows passes done long none = record {
   long = long;
   stops = λ v wet. absurd (none v wet);
@@ -43,11 +44,13 @@ line-none below lows passes done long none = record {
   lowest = λ k m x y v w less atx aty pass apart. absurd (cc atx);
 }
 
-module _ (below : Rank → Rank → Bool) (lows : List Low) (different : AllPairs (λ x y. x.rank.index ≢ y.rank.index) lows) (passes : List Pass) (done : List Bool) (line : List Stop) (so : IsLineSoFar below lows passes done line) where
+module _ (below : Rank → Rank → Bool) (lows : List Low) (different : AllPairs (λ x y. x.rank.index ≢ y.rank.index) lows) (passes : List Pass) (done : List Bool) (line : List Stop)
+    (so : IsLineSoFar below lows passes done line) where
   -- one more stop
   module _ (o : ℕ) (s : Stop) (inside : o < length lows) (not_yet : is_done done o ≡ false) (is : IsStopFor lows o s)
       (attaches : (r : Rank) → s.rise ≡ Some r → (d : ℕ) × (is_done done d ≡ true) × HasPass passes (rank_at lows d) s.low r)
-      (lowest : (d : ℕ) (v w : Rank) → is_done done d ≡ true → HasPass passes (rank_at lows d) v w → ((k : ℕ) (z : Stop) → slice_get line k ≡ Some z → z.low ≢ v) → (r : Rank) × (s.rise ≡ Some r) × IsNotAbove below r w) where
+      (lowest : (d : ℕ) (v w : Rank) → is_done done d ≡ true → HasPass passes (rank_at lows d) v w → ((k : ℕ) (z : Stop) → slice_get line k ≡ Some z → z.low ≢ v) → (r : Rank)
+      × (s.rise ≡ Some r) × IsNotAbove below r w) where
     within : o < length done
     within = (let long = so.long in omega arith)
 
@@ -112,7 +115,8 @@ module _ (below : Rank → Rank → Bool) (lows : List Low) (different : AllPair
     }
 
   -- where all lows are done, it is the flood line
-  pub line-all : IsStrictOrder below → ((v : ℕ) → v < length lows → is_done done v ≡ true) → ((a b w : Rank) → HasPass passes a b w → (v : ℕ) × (v < length lows) × (rank_at lows v ≡ b)) → IsFloodLine below lows passes line
+  pub line-all : IsStrictOrder below → ((v : ℕ) → v < length lows → is_done done v ≡ true)
+      → ((a b w : Rank) → HasPass passes a b w → (v : ℕ) × (v < length lows) × (rank_at lows v ≡ b)) → IsFloodLine below lows passes line
   line-all order all ends = record {
     stops = λ x. (stop_of x, low_of x);
     once = pairs_from_places (λ (z : Stop). z.low) line so.once;
@@ -147,7 +151,8 @@ module _ (below : Rank → Rank → Bool) (lows : List Low) (different : AllPair
           same_low a b c d e f = cc
 
 -- stops over links
-module _ (below : Rank → Rank → Bool) (order : IsStrictOrder below) (lows : List Low) (different : AllPairs (λ x y. x.rank.index ≢ y.rank.index) lows) (links : List Link) (sorted : IsSortedBy (is_lower below) links) (within : All (HasEnds (length lows)) links)
+module _ (below : Rank → Rank → Bool) (order : IsStrictOrder below) (lows : List Low) (different : AllPairs (λ x y. x.rank.index ≢ y.rank.index) lows) (links : List Link)
+    (sorted : IsSortedBy (is_lower below) links) (within : All (HasEnds (length lows)) links)
     (done : List Bool) (line : List Stop) (so : IsLineSoFar below lows (map (pass_of lows) links) done line) where
   -- a pass from a low that is done to one that is no stop is that of a link to one that is not done
   link_out : (d : ℕ) (v w : Rank) → is_done done d ≡ true → HasPass (map (pass_of lows) links) (rank_at lows d) v w → ((k : ℕ) (z : Stop) → slice_get line k ≡ Some z → z.low ≢ v) →
@@ -191,7 +196,8 @@ module _ (below : Rank → Rank → Bool) (order : IsStrictOrder below) (lows : 
         (l.at, rise, subst (λ i. IsNotAbove below l.at i) h.4 (sorted-places below order links sorted p h.0 l h.1 le at h.3))))
 
 -- the ends of passes of links are lows
-pub link-ends : (lows : List Low) (links : List Link) → All (HasEnds (length lows)) links → (a b w : Rank) → HasPass (map (pass_of lows) links) a b w → (v : ℕ) × (v < length lows) × (rank_at lows v ≡ b)
+pub link-ends : (lows : List Low) (links : List Link) → All (HasEnds (length lows)) links → (a b w : Rank) → HasPass (map (pass_of lows) links) a b w → (v : ℕ) × (v < length lows)
+    × (rank_at lows v ≡ b)
 link-ends lows links within a b w (inl h) =
     let x = Contains-map (pass_of lows) links _ h in
     ((x.0).b, (All-contains (HasEnds (length lows)) links x.0 within x.1).1, ap (λ (p : Pass). p.b) x.2)
@@ -200,7 +206,8 @@ link-ends lows links within a b w (inr h) =
     ((x.0).a, (All-contains (HasEnds (length lows)) links x.0 within x.1).0, ap (λ (p : Pass). p.a) x.2)
 
 -- a flood line of the same passes in another order
-pub line-same_passes : (below : Rank → Rank → Bool) (lows : List Low) (old new : List Pass) → ((a b w : Rank) → HasPass old a b w → HasPass new a b w) → ((a b w : Rank) → HasPass new a b w → HasPass old a b w) →
+pub line-same_passes : (below : Rank → Rank → Bool) (lows : List Low) (old new : List Pass) → ((a b w : Rank) → HasPass old a b w → HasPass new a b w)
+    → ((a b w : Rank) → HasPass new a b w → HasPass old a b w) →
     (line : List Stop) → IsFloodLine below lows old line → IsFloodLine below lows new line
 line-same_passes below lows old new forth back line h = record {
   stops = h.stops;

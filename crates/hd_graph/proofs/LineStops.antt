@@ -25,7 +25,8 @@ module _ (lows : List Low) (different : AllPairs (λ x y. x.rank.index ≢ y.ran
       let a = place_of lows (record { rank = x.low; pit = x.pit }) (low_for x (at_place line i x atx)) in
       let b = place_of lows (record { rank = y.low; pit = y.pit }) (low_for y (at_place line j y aty)) in
       let same : a.0 ≡ b.0 = one_low lows different a.0 b.0 (record { rank = x.low; pit = x.pit }) (record { rank = y.low; pit = y.pit }) a.1 b.1 e in
-      let low : record { rank = x.low; pit = x.pit } ≡ record { rank = y.low; pit = y.pit } = same_Some (record { rank = x.low; pit = x.pit }) (record { rank = y.low; pit = y.pit }) (sym a.1 ∙ ap (λ k. slice_get lows k) same ∙ b.1) in
+      let low : record { rank = x.low; pit = x.pit } ≡ record { rank = y.low; pit = y.pit } = same_Some (record { rank = x.low; pit = x.pit })
+      (record { rank = y.low; pit = y.pit }) (sym a.1 ∙ ap (λ k. slice_get lows k) same ∙ b.1) in
       one_place (λ (z : Stop). z.low) line once i j x y atx aty (ap (λ (z : Low). z.rank) low)
 
   -- there are no more stops than lows

@@ -38,7 +38,8 @@ module _ (below : Rank → Rank → Bool) (lows : List Low) (links : List Link) 
 
   module _ (different : AllPairs (λ x y. x.rank.index ≢ y.rank.index) lows) (within : All (HasEnds (length lows)) links) where
     -- a pass from a low is that of a link, which leads to another low
-    pub link_of : (a : ℕ) (r w : Rank) → a < length lows → HasPass (map (pass_of lows) links) (rank_at lows a) r w → (l : Link) × Contains links l × (l.at ≡ w) × (b : ℕ) × IsBetween l a b × (b < length lows) × (rank_at lows b ≡ r)
+    pub link_of : (a : ℕ) (r w : Rank) → a < length lows → HasPass (map (pass_of lows) links) (rank_at lows a) r w → (l : Link) × Contains links l × (l.at ≡ w) × (b : ℕ)
+        × IsBetween l a b × (b < length lows) × (rank_at lows b ≡ r)
     link_of a r w inside (inl h) =
         let x = Contains-map (pass_of lows) links _ h in
         let l : Link = x.0 in
@@ -55,7 +56,8 @@ module _ (below : Rank → Rank → Bool) (lows : List Low) (links : List Link) 
         (l, x.1, ap (λ (p : Pass). p.at) x.2, l.a, inr (refl, same-low lows different l.b a ends_in.1 inside second), ends_in.0, first)
 
     -- and passes are links
-    pub linked-passes : {r s : Rank} (a : ℕ) → a < length lows → rank_at lows a ≡ r → Reach (PassStep below (map (pass_of lows) links) t) r s → (b : ℕ) × (b < length lows) × (rank_at lows b ≡ s) × Reach (LinkStep below links t) a b
+    pub linked-passes : {r s : Rank} (a : ℕ) → a < length lows → rank_at lows a ≡ r → Reach (PassStep below (map (pass_of lows) links) t) r s → (b : ℕ) × (b < length lows)
+        × (rank_at lows b ≡ s) × Reach (LinkStep below links t) a b
     linked-passes a inside e here = (a, inside, e, here)
     linked-passes a inside e (step {a = r} {b = s} {c = u} p rest) =
         let x = link_of a s p.0 inside (subst (λ z. HasPass (map (pass_of lows) links) z s p.0) (sym e) p.1) in

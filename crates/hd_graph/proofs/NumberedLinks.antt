@@ -29,7 +29,8 @@ module _ (lows : List Low) (different : AllPairs (λ x y. x.rank.index ≢ y.ran
   one_low i j x y atx aty e = one_place (λ (z : Low). z.rank.index) lows different i j x y atx aty e
 
   -- the low of the next number is written down, and those before it stay
-  pub numbering-set : (n : ℕ) (numbers : List ℕ) (d : Low) → IsNumbering lows n numbers → n < length lows → (get_or lows n d).rank.index < length numbers → IsNumbering lows (n + 1) (set numbers (get_or lows n d).rank.index n)
+  pub numbering-set : (n : ℕ) (numbers : List ℕ) (d : Low) → IsNumbering lows n numbers → n < length lows → (get_or lows n d).rank.index < length numbers
+      → IsNumbering lows (n + 1) (set numbers (get_or lows n d).rank.index n)
   numbering-set n numbers d before inside room = λ k x less at.
       let y : Low = get_or lows n d in
       let i : ℕ = y.rank.index in
@@ -42,7 +43,8 @@ module _ (lows : List Low) (different : AllPairs (λ x y. x.rank.index ≢ y.ran
       ]
 
   -- a low is found under its number
-  pub low-found : (numbers : List ℕ) → IsNumbering lows (length lows) numbers → (r : Rank) → IsLow lows r → (k : ℕ) × (x : Low) × (slice_get lows k ≡ Some x) × (x.rank ≡ r) × (slice_get numbers r.index ≡ Some k)
+  pub low-found : (numbers : List ℕ) → IsNumbering lows (length lows) numbers → (r : Rank) → IsLow lows r → (k : ℕ) × (x : Low) × (slice_get lows k ≡ Some x) × (x.rank ≡ r)
+      × (slice_get numbers r.index ≡ Some k)
   low-found numbers numbered r low =
       let p = place_of lows low.0 low.1 in
       (p.0, low.0, p.1, low.2, ap (λ (q : Rank). slice_get numbers q.index) (sym low.2) ∙ numbered p.0 low.0 (slice_get_within lows p.0 low.0 p.1) p.1)
@@ -73,7 +75,8 @@ module _ (lows : List Low) (different : AllPairs (λ x y. x.rank.index ≢ y.ran
       same_pass r s u v w e f = cc
 
 -- links stand for the passes so far, and for one more
-pub links-more : (lows : List Low) (passes : List Pass) (k : ℕ) (d : Pass) → k < length passes → (links : List Link) (l : Link) → pass_of lows l ≡ get_or passes k d → map (pass_of lows) links ≡ take k passes →
+pub links-more : (lows : List Low) (passes : List Pass) (k : ℕ) (d : Pass) → k < length passes → (links : List Link) (l : Link) → pass_of lows l ≡ get_or passes k d
+    → map (pass_of lows) links ≡ take k passes →
     map (pass_of lows) (links ++ l ∷ []) ≡ take (k + 1) passes
 links-more lows passes k d inside links l is so =
     map-append (pass_of lows) links (l ∷ []) ∙ ap (λ (ps : List Pass). ps ++ pass_of lows l ∷ []) so ∙ ap (λ (p : Pass). take k passes ++ p ∷ []) is ∙ sym (take_more passes k d inside)

@@ -153,14 +153,16 @@ module _ (below : Rank → Rank → Bool) (order : IsStrictOrder below) (passes 
         (rest.0, rest.1, rest.2, rest.3, step first rest.4)
 
     -- two lows are joined at t exactly where the highest rise between them is within t
-    pub joined-within : (t : Rank) (i j : ℕ) (x y : Stop) → i < j → slice_get line i ≡ Some x → slice_get line j ≡ Some y → Reach (PassStep below passes t) x.low y.low → RiseWithin below t (rise_between below line i j)
+    pub joined-within : (t : Rank) (i j : ℕ) (x y : Stop) → i < j → slice_get line i ≡ Some x → slice_get line j ≡ Some y → Reach (PassStep below passes t) x.low y.low
+        → RiseWithin below t (rise_between below line i j)
     joined-within t i j x y less hx hy r =
         let p = places_joined t i x hx refl r in
         let same : p.0 ≡ j = once p.0 j p.1 y p.2 hy p.3 in
         let there : Reach (StepAt t) i j = subst (λ v. Reach (StepAt t) i v) same p.4 in
         between-within below order line t i j y less hy (λ k z lo hi at. rises-from_joined t i j k z lo hi at there)
 
-    pub within-joined : (t : Rank) (i j : ℕ) (x y : Stop) → i < j → slice_get line i ≡ Some x → slice_get line j ≡ Some y → RiseWithin below t (rise_between below line i j) → Reach (PassStep below passes t) x.low y.low
+    pub within-joined : (t : Rank) (i j : ℕ) (x y : Stop) → i < j → slice_get line i ≡ Some x → slice_get line j ≡ Some y → RiseWithin below t (rise_between below line i j)
+        → Reach (PassStep below passes t) x.low y.low
     within-joined t i j x y less hx hy h =
         let inside : j < length line = slice_get_within line j y hy in
         lows_joined t x y hx hy (joined-from_rises t i j (omega arith) (λ k lo hi. (let z = item_at line k (omega arith) in (z.0, z.1, within-between below order line t i j h k z.0 lo hi z.1))))

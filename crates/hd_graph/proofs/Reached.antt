@@ -56,7 +56,8 @@ module _ (links : List Link) where
   alone (step s r) = absurd (let less = s.2 in omega arith)
 
   -- a low is reached to which links from those that are done lead as well
-  reached-new : (done : List Bool) (o : ℕ) → o < length done → ((n y v : ℕ) → is_done done y ≡ true → is_done done v ≡ false → AreJoined links n y v → AreJoined links n y o) → IsReached links (set done o true) o 0
+  reached-new : (done : List Bool) (o : ℕ) → o < length done → ((n y v : ℕ) → is_done done y ≡ true → is_done done v ≡ false → AreJoined links n y v → AreJoined links n y o)
+      → IsReached links (set done o true) o 0
   reached-new done o inside leads = record {
     whole = λ v h. subst (λ i. is_done (set done o true) i ≡ true) (alone h) (done-set done o inside);
     around = λ n y v wet dry h. elim (done-cases done o inside y wet) [

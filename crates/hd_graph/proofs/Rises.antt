@@ -1,5 +1,6 @@
 -- The highest rise between two places of a line, by levels.
-use Rattle.std.proofs.Common.{◌≡◌, ℕ, zero, suc, ◌+◌, ◌-◌, ◌<◌, ◌≤◌, ◌⊎◌, inl, inr, Bool, true, false, List, [], ◌∷◌, length, take, drop, cond, Option, Some, None, refl, sym, ◌∙◌, ap, subst, arith, slice_get}
+use Rattle.std.proofs.Common.{◌≡◌, ℕ, zero, suc, ◌+◌, ◌-◌, ◌<◌, ◌≤◌, ◌⊎◌, inl, inr, Bool, true, false, List, [], ◌∷◌, length, take, drop, cond, Option}
+use Rattle.std.proofs.Common.{Some, None, refl, sym, ◌∙◌, ap, subst, arith, slice_get}
 use Rattle.std.proofs.lemmas.Option.{same_Some, none-some}
 use Rattle.hd_map.specs.declared.types.Rank.{Rank}
 use Rattle.hd_map.specs.Order.{IsNotAbove, IsStrictOrder}
@@ -71,7 +72,8 @@ module _ (below : Rank → Rank → Bool) (order : IsStrictOrder below) where
   all-within t x [] h = h 0 x refl
   all-within t x (y ∷ ys) h = higher-within t x.rise (highest_rise below (y ∷ ys)) (h 0 x refl) (all-within t y ys (λ k z at. h (suc k) z at))
 
-  all-within_some : (t : Rank) (xs : List Stop) (k : ℕ) (z : Stop) → slice_get xs k ≡ Some z → ((l : ℕ) (w : Stop) → slice_get xs l ≡ Some w → RiseWithin below t w.rise) → RiseWithin below t (highest_rise below xs)
+  all-within_some : (t : Rank) (xs : List Stop) (k : ℕ) (z : Stop) → slice_get xs k ≡ Some z → ((l : ℕ) (w : Stop) → slice_get xs l ≡ Some w → RiseWithin below t w.rise)
+      → RiseWithin below t (highest_rise below xs)
   all-within_some t [] k z at h = absurd (cc at)
   all-within_some t (x ∷ xs) k z at h = all-within t x xs h
 

@@ -17,21 +17,25 @@ module _ (below : Rank → Rank → Bool) (order : IsStrictOrder below) (Has : R
     pub all : (s r : Rank) → IsPart below Has Pit s r → IsOne (record { saddle = s; low = r })
     pub some : (p q s : Rank) → IsSaddleOfPits below Has Pit p q s → (r : Rank) × IsOne (record { saddle = s; low = r })
 
-  one_join : (joins : List Joining) → AllPairs (λ (a : Joining) (b : Joining). below a.saddle b.saddle ≡ true) joins → (x y : Joining) → Contains joins x → Contains joins y → x.saddle ≡ y.saddle → x ≡ y
+  one_join : (joins : List Joining) → AllPairs (λ (a : Joining) (b : Joining). below a.saddle b.saddle ≡ true) joins → (x y : Joining) → Contains joins x → Contains joins y
+      → x.saddle ≡ y.saddle → x ≡ y
   one_join [] h x y hx hy e = absurd (Contains-none x hx)
   one_join (z ∷ zs) h x y hx hy e = elim (Contains-cases z x zs hx) [
     | inl ex ↦ elim (Contains-cases z y zs hy) [
       | inl ey ↦ ex ∙ sym ey
-      | inr ly ↦ absurd (below-apart below order z.saddle y.saddle (AllPairs-first (λ (a : Joining) (b : Joining). below a.saddle b.saddle ≡ true) z y zs h ly) (sym (ap (λ (w : Joining). w.saddle) ex) ∙ e))
+      | inr ly ↦ absurd (below-apart below order z.saddle y.saddle (AllPairs-first (λ (a : Joining) (b : Joining). below a.saddle b.saddle ≡ true) z y zs h ly)
+          (sym (ap (λ (w : Joining). w.saddle) ex) ∙ e))
     ]
     | inr lx ↦ elim (Contains-cases z y zs hy) [
-      | inl ey ↦ absurd (below-apart below order z.saddle x.saddle (AllPairs-first (λ (a : Joining) (b : Joining). below a.saddle b.saddle ≡ true) z x zs h lx) (sym (ap (λ (w : Joining). w.saddle) ey) ∙ sym e))
+      | inl ey ↦ absurd (below-apart below order z.saddle x.saddle (AllPairs-first (λ (a : Joining) (b : Joining). below a.saddle b.saddle ≡ true) z x zs h lx)
+          (sym (ap (λ (w : Joining). w.saddle) ey) ∙ sym e))
       | inr ly ↦ one_join zs (AllPairs-tail (λ (a : Joining) (b : Joining). below a.saddle b.saddle ≡ true) z zs h) x y lx ly e
     ]
   ]
 
   -- grouped, they are the tree
-  pub tree-of_classes : (IsOne : Part → Type 0) → NameClasses IsOne → (es : List Part) (joins : List Joining) → ((e : Part) → Contains es e ↔ IsOne e) → AreGrouped below es joins → IsTree below Has Pit joins
+  pub tree-of_classes : (IsOne : Part → Type 0) → NameClasses IsOne → (es : List Part) (joins : List Joining) → ((e : Part) → Contains es e ↔ IsOne e) → AreGrouped below es joins
+      → IsTree below Has Pit joins
   tree-of_classes IsOne name es joins exactly grouped = record {
     saddles = λ s. (
       λ h.

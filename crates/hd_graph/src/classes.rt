@@ -55,7 +55,8 @@ impl Classes {
         requires second { b < length self.old.parents.items }
         ensures falling { AreFalling self.new.parents.items }
         ensures long { length self.new.parents.items ≡ length self.old.parents.items }
-        ensures inside { (result.0 < length self.new.parents.items) × (result.1 < length self.new.parents.items) }
+        ensures inside { (result.0 < length self.new.parents.items)
+            × (result.1 < length self.new.parents.items) }
         ensures found { AreLeastsOf self.old.parents.items self.new.parents.items a b result.0 result.1 }
     {
         let first = self.least_of(a);
@@ -91,7 +92,8 @@ impl Classes {
         ensures one { AreOneClass self.old.parents.items number result }
         ensures least { IsLeast self.new.parents.items result }
         ensures leasts { (x : ℕ) → IsLeast self.new.parents.items x ↔ IsLeast self.old.parents.items x }
-        ensures same { (x y : ℕ) → AreOneClass self.new.parents.items x y ↔ AreOneClass self.old.parents.items x y }
+        ensures same { (x y : ℕ) → AreOneClass self.new.parents.items x y
+            ↔ AreOneClass self.old.parents.items x y }
     {
         let mut least = number;
         while self.parents[least as usize] != least {

@@ -69,9 +69,11 @@ fn visit_part<S: Side>(
     requires onward { AreOnward links.now (length lows.now) onward.now }
     requires start { start < length lows.now }
     requires whole { AreWhole links.now done.old }
-    requires line { IsLineSoFar (below_by S.NAME) lows.now (map (pass_of lows.now) links.now) done.old stops.old }
+    requires line { IsLineSoFar (below_by S.NAME) lows.now
+        (map (pass_of lows.now) links.now) done.old stops.old }
     ensures whole { OnOk result (AreWhole links.now done.new) }
-    ensures line { OnOk result (IsLineSoFar (below_by S.NAME) lows.now (map (pass_of lows.now) links.now) done.new stops.new) }
+    ensures line { OnOk result (IsLineSoFar (below_by S.NAME) lows.now
+        (map (pass_of lows.now) links.now) done.new stops.new) }
     ensures done { OnOk result (is_done done.new start ≡ true) }
     ensures kept { OnOk result ((v : ℕ) → is_done done.old v ≡ true → is_done done.new v ≡ true) }
 {
@@ -117,7 +119,8 @@ fn visit(
     requires low { low < length lows.now }
     requires within { low < length done.old }
     ensures done { OnOk result (done.new ≡ slice_set done.old low true) }
-    ensures stops { OnOk result ((s : Stop) × (stops.new ≡ stops.old ++ s ∷ []) × IsStopFor lows.now low s × (s.rise ≡ rise)) }
+    ensures stops { OnOk result ((s : Stop) × (stops.new ≡ stops.old ++ s ∷ [])
+        × IsStopFor lows.now low s × (s.rise ≡ rise)) }
 {
     let Low { rank, pit } = lows[low];
     stops.push(Stop {

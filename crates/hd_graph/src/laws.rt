@@ -54,7 +54,8 @@ pub fn least_highest_pass_is_the_saddle()
 
 /// The flood line of such a graph tells the pits of the map and their saddles.
 pub fn flood_line_tells_the_saddles()
-    ensures { (m : Map) (side : SideName) (labels : List (Option ℕ)) (lows : List Low) (passes : List Pass) (line : List Stop)
+    ensures { (m : Map) (side : SideName) (labels : List (Option ℕ)) (lows : List Low)
+        (passes : List Pass) (line : List Stop)
         → AreBasins m side (IsLabelled m labels) → AreCrossingsUnder m side labels passes
         → AreLowsOf m side (IsLabelled m labels) lows
         → IsFloodLine (below_by side) lows passes line → TellsSaddles m side line }
@@ -62,7 +63,8 @@ pub fn flood_line_tells_the_saddles()
 
 /// The merges of the lows of such a graph are at the saddles of these lows.
 pub fn merges_tell_the_saddles()
-    ensures { (m : Map) (side : SideName) (labels : List (Option ℕ)) (lows : List Low) (passes : List Pass) (merges : List Merge)
+    ensures { (m : Map) (side : SideName) (labels : List (Option ℕ)) (lows : List Low)
+        (passes : List Pass) (merges : List Merge)
         → AreBasins m side (IsLabelled m labels) → AreCrossingsUnder m side labels passes
         → AreLowsOf m side (IsLabelled m labels) lows
         → AreMerges (below_by side) (LeastHighestIs (below_by side) passes) lows merges

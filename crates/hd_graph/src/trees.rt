@@ -67,7 +67,8 @@ pub fn tree_of_merges<S: Side>(
 fn group<S: Side>(alloc: Global, lows: &[Low], merges: &[Merge]) -> Result<Vec<Join>, Memory>
     requires each { All (AreTwoLows (below_by S.NAME) lows.now) merges.now }
     requires rising { AllPairs (λ x y. IsNotAbove (below_by S.NAME) x.at y.at) merges.now }
-    ensures { IfOk result (λ joins. AreGrouped (below_by S.NAME) (rise_parts (rises_of lows.now merges.now)) (joins_of joins.items)) }
+    ensures { IfOk result (λ joins. AreGrouped (below_by S.NAME)
+        (rise_parts (rises_of lows.now merges.now)) (joins_of joins.items)) }
 {
     let mut joins = Vec::with_capacity(alloc, merges.len())?;
     for merge in merges {
@@ -92,7 +93,9 @@ fn rise_of(lows: &[Low], merge: Merge) -> Rise
 // Adds the parts on the two sides of the rise of a merge. Mostly they are a join of their own.
 fn add_merge_parts<S: Side>(alloc: Global, joins: &mut Vec<Join>, rise: Rise) -> Result<(), Memory>
     requires { below_by S.NAME rise.left rise.right ≡ true }
-    ensures { OnOk result (joins_of joins.new.items ≡ with_part (below_by S.NAME) (right_of rise) (with_part (below_by S.NAME) (left_of rise) (joins_of joins.old.items))) }
+    ensures { OnOk result (joins_of joins.new.items
+        ≡ with_part (below_by S.NAME) (right_of rise)
+        (with_part (below_by S.NAME) (left_of rise) (joins_of joins.old.items))) }
 {
     if !opens_join::<S>(joins, rise.saddle) {
         return add_rise_parts::<S>(alloc, joins, rise);
@@ -119,7 +122,9 @@ fn opens_join<S: Side>(joins: &[Join], saddle: Rank) -> bool
 
 // Adds the parts on the two sides of a rise.
 fn add_rise_parts<S: Side>(alloc: Global, joins: &mut Vec<Join>, rise: Rise) -> Result<(), Memory>
-    ensures { OnOk result (joins_of joins.new.items ≡ with_part (below_by S.NAME) (right_of rise) (with_part (below_by S.NAME) (left_of rise) (joins_of joins.old.items))) }
+    ensures { OnOk result (joins_of joins.new.items
+        ≡ with_part (below_by S.NAME) (right_of rise)
+        (with_part (below_by S.NAME) (left_of rise) (joins_of joins.old.items))) }
 {
     let saddle = rise.saddle;
     let low = rise.left;
@@ -131,7 +136,8 @@ fn add_rise_parts<S: Side>(alloc: Global, joins: &mut Vec<Join>, rise: Rise) -> 
 
 // Adds the part to the last join, where that is not below its saddle, and else a join of its own.
 fn add_part<S: Side>(alloc: Global, joins: &mut Vec<Join>, part: Part) -> Result<(), Memory>
-    ensures { OnOk result (joins_of joins.new.items ≡ with_part (below_by S.NAME) part (joins_of joins.old.items)) }
+    ensures { OnOk result (joins_of joins.new.items
+        ≡ with_part (below_by S.NAME) part (joins_of joins.old.items)) }
 {
     if let Some(last) = joins.pop() {
         if !S::below(last.saddle, part.saddle) {

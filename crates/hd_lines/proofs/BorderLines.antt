@@ -45,7 +45,8 @@ module _ (m : Map) (whole : IsMap m) (side : SideName) (thousandths : ℕ) (step
       (slice_get_within kept l.a ends.0.0 ends.0.1, slice_get_within kept l.b ends.1.0 ends.1.1)
 
   -- a pair lies across the two places where it lies across their owners
-  across-same : (i j : ℕ) (a b : Kept) → slice_get kept i ≡ Some a → slice_get kept j ≡ Some b → (p : Pair) → IsAcross m (HasPlace m places) i j p ↔ IsAcross m (IsOwnedBy m side pruned.owner) a.pit b.pit p
+  across-same : (i j : ℕ) (a b : Kept) → slice_get kept i ≡ Some a → slice_get kept j ≡ Some b → (p : Pair) → IsAcross m (HasPlace m places) i j p
+      ↔ IsAcross m (IsOwnedBy m side pruned.owner) a.pit b.pit p
   across-same i j a b at_a at_b p = (
     λ h. record {
       near = h.near;
@@ -104,10 +105,13 @@ module _ (m : Map) (whole : IsMap m) (side : SideName) (thousandths : ℕ) (step
           first = kept-last m whole side thousandths steps kept owners pruned a (at_place kept l.a a at_a);
           second = kept-last m whole side thousandths steps kept owners pruned b (at_place kept l.b b at_b);
           lesser = rises-at m whole side thousandths steps kept owners pruned l.a l.b a b (right.lesser l in_borders) at_a at_b;
-          pairs = counted-as side (IsAcross m (HasPlace m places) l.a l.b) (IsAcross m (IsOwnedBy m side pruned.owner) a.pit b.pit) (across-same l.a l.b a b at_a at_b) l.pairs l.pass (right.counted l in_borders);
+          pairs = counted-as side (IsAcross m (HasPlace m places) l.a l.b) (IsAcross m (IsOwnedBy m side pruned.owner) a.pit b.pit)
+              (across-same l.a l.b a b at_a at_b) l.pairs l.pass (right.counted l in_borders);
           on_saddle = (
-            λ e. subst (λ (z : Rank). IsSaddle m side a.pit z l.pass) (pit_at-is kept l.b b at_b) (subst (λ (z : Rank). IsSaddle m side z (pit_at kept l.b) l.pass) (pit_at-is kept l.a a at_a) (saddle.0 e)),
-            λ h. saddle.1 (subst (λ (z : Rank). IsSaddle m side (pit_at kept l.a) z l.pass) (sym (pit_at-is kept l.b b at_b)) (subst (λ (z : Rank). IsSaddle m side z b.pit l.pass) (sym (pit_at-is kept l.a a at_a)) h)),
+            λ e. subst (λ (z : Rank). IsSaddle m side a.pit z l.pass) (pit_at-is kept l.b b at_b)
+                (subst (λ (z : Rank). IsSaddle m side z (pit_at kept l.b) l.pass) (pit_at-is kept l.a a at_a) (saddle.0 e)),
+            λ h. saddle.1 (subst (λ (z : Rank). IsSaddle m side (pit_at kept l.a) z l.pass) (sym (pit_at-is kept l.b b at_b))
+                (subst (λ (z : Rank). IsSaddle m side z b.pit l.pass) (sym (pit_at-is kept l.a a at_a)) h)),
           );
         }
 

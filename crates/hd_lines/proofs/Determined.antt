@@ -35,7 +35,8 @@ module _ (m : Map) (side : SideName) (kept : List Rank) where
   owned-as : (mine yours : Rank → Rank) → ((r : Rank) → IsPit m side r → mine r ≡ yours r) → (x a : Rank) → IsOwnedBy m side mine x a → IsOwnedBy m side yours x a
   owned-as mine yours agree x a h = record { root = h.root; is_root = h.is_root; owned = sym (agree h.root (root-is_pit m side x h.root h.is_root)) ∙ h.owned }
 
-  across-as : (mine yours : Rank → Rank) → ((r : Rank) → IsPit m side r → mine r ≡ yours r) → (a b : Rank) (p : Pair) → IsAcross m (IsOwnedBy m side mine) a b p → IsAcross m (IsOwnedBy m side yours) a b p
+  across-as : (mine yours : Rank → Rank) → ((r : Rank) → IsPit m side r → mine r ≡ yours r) → (a b : Rank) (p : Pair) → IsAcross m (IsOwnedBy m side mine) a b p
+      → IsAcross m (IsOwnedBy m side yours) a b p
   across-as mine yours agree a b p h = record { near = h.near; from_in = owned-as mine yours agree p.from a h.from_in; to_in = owned-as mine yours agree p.to b h.to_in }
 
   saddle-along : (a b s c d t : Rank) → a ≡ c → b ≡ d → s ≡ t → IsSaddle m side a b s → IsSaddle m side c d t
@@ -45,7 +46,8 @@ module _ (m : Map) (side : SideName) (kept : List Rank) where
   border_line-determined : (owner : Rank → Rank) (x y : BorderLine) → IsBorderLine m side kept owner x → IsBorderLine m side kept owner y → x.a ≡ y.a → x.b ≡ y.b → x ≡ y
   border_line-determined owner x y h k a b =
       let counted : AreCounted side (IsAcross m (IsOwnedBy m side owner) x.a x.b) y.pairs y.pass =
-      subst (λ (z : Rank). AreCounted side (IsAcross m (IsOwnedBy m side owner) z x.b) y.pairs y.pass) (sym a) (subst (λ (z : Rank). AreCounted side (IsAcross m (IsOwnedBy m side owner) y.a z) y.pairs y.pass) (sym b) k.pairs) in
+      subst (λ (z : Rank). AreCounted side (IsAcross m (IsOwnedBy m side owner) z x.b) y.pairs y.pass) (sym a)
+      (subst (λ (z : Rank). AreCounted side (IsAcross m (IsOwnedBy m side owner) y.a z) y.pairs y.pass) (sym b) k.pairs) in
       let same = counted-unique side (IsAcross m (IsOwnedBy m side owner) x.a x.b) x.pairs y.pairs x.pass y.pass h.pairs counted in
       same_line x.a x.b x.pass y.a y.b y.pass x.pairs y.pairs x.on_saddle y.on_saddle a b same.0 same.1 (same_test x.on_saddle y.on_saddle (
         λ e. k.on_saddle.1 (saddle-along x.a x.b x.pass y.a y.b y.pass a b same.1 (h.on_saddle.0 e)),
@@ -73,7 +75,8 @@ module _ (m : Map) (side : SideName) (kept : List Rank) where
         subst (λ (z : BorderLine). Contains ys z) (border_line-determined yours there.0 x (hy.each there.0 there.1) is there.2 there.3) there.1
 
   -- there is one list of border lines at most
-  pub AreBorderLines-unique : (mine yours : Rank → Rank) (xs ys : List BorderLine) → ((r : Rank) → IsPit m side r → mine r ≡ yours r) → AreBorderLines m side kept mine xs → AreBorderLines m side kept yours ys → xs ≡ ys
+  pub AreBorderLines-unique : (mine yours : Rank → Rank) (xs ys : List BorderLine) → ((r : Rank) → IsPit m side r → mine r ≡ yours r) → AreBorderLines m side kept mine xs
+      → AreBorderLines m side kept yours ys → xs ≡ ys
   AreBorderLines-unique mine yours xs ys agree hx hy =
       same_in_order (λ (x : BorderLine) (y : BorderLine). (x.a.index < y.a.index) ⊎ ((x.a.index ≡ y.a.index) × (x.b.index < y.b.index)))
       (λ x y. one_way x.a.index x.b.index y.a.index y.b.index) xs ys hx.in_order hy.in_order

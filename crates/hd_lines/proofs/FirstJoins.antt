@@ -43,7 +43,8 @@ module _ (m : Map) (side : SideName) (places : List ℕ) (borders : List Border)
       let l : Border = s.0 in
       let one : JoinedBy m side l.pass (pit i) (pit k) = elim s.2 [
         | inl e ↦ subst (λ n. JoinedBy m side l.pass (pit n) (pit k)) e.0 (subst (λ n. JoinedBy m side l.pass (pit l.a) (pit n)) e.1 (JoinedBy-pass l s.1))
-        | inr e ↦ subst (λ n. JoinedBy m side l.pass (pit n) (pit k)) e.1 (subst (λ n. JoinedBy m side l.pass (pit l.b) (pit n)) e.0 (joined_both m side l.pass (pit l.a) (pit l.b) (JoinedBy-pass l s.1)))
+        | inr e ↦ subst (λ n. JoinedBy m side l.pass (pit n) (pit k)) e.1 (subst (λ n. JoinedBy m side l.pass (pit l.b) (pit n)) e.0
+            (joined_both m side l.pass (pit l.a) (pit l.b) (JoinedBy-pass l s.1)))
       ] in
       elim (lower-joins w r) [
         | inl e ↦ inr (l.pass, s.3, subst (λ n. JoinedBy m side l.pass (pit i) (pit n)) e one)
@@ -63,10 +64,12 @@ module _ (m : Map) (side : SideName) (places : List ℕ) (borders : List Border)
   pair-lower w x y i j near h k low less =
       let p : Pair = record { from = x; to = y } in
       let l = are.all i j p less (record { near = near; from_in = h; to_in = k }) in
-      let across : IsAcross m (HasPlace m places) (l.0).a (l.0).b p = subst (λ n. IsAcross m (HasPlace m places) n (l.0).b p) (sym l.2) (subst (λ n. IsAcross m (HasPlace m places) i n p) (sym l.3) (record { near = near; from_in = h; to_in = k })) in
+      let across : IsAcross m (HasPlace m places) (l.0).a (l.0).b p = subst (λ n. IsAcross m (HasPlace m places) n (l.0).b p) (sym l.2)
+      (subst (λ n. IsAcross m (HasPlace m places) i n p) (sym l.3) (record { near = near; from_in = h; to_in = k })) in
       (l.0, l.1, inl (l.2, l.3), not_above-along (below_by side) (below_by-order side) (l.0).pass (higher_by side x y) w ((are.counted l.0 l.1).least p across) low)
 
-  step-lower : (w x y : Rank) (i j : ℕ) → Near m x y → HasPlace m places x i → HasPlace m places y j → below_by side x w ≡ true → below_by side y w ≡ true → Reach (LowerStep (below_by side) borders w) i j
+  step-lower : (w x y : Rank) (i j : ℕ) → Near m x y → HasPlace m places x i → HasPlace m places y j → below_by side x w ≡ true → below_by side y w ≡ true
+      → Reach (LowerStep (below_by side) borders w) i j
   step-lower w x y i j near h k low low' = elim (cases_eq i j) [
     | inl e ↦ subst (λ n. Reach (LowerStep (below_by side) borders w) i n) e here
     | inr ne ↦ elim (cases_lt i j) [
@@ -78,7 +81,8 @@ module _ (m : Map) (side : SideName) (places : List ℕ) (borders : List Border)
   ]
 
   -- and so does each path below it
-  path-lower : (w t : Rank) → below_by side t w ≡ true → {x y : Rank} → JoinedBy m side t x y → (i j : ℕ) → HasPlace m places x i → HasPlace m places y j → Reach (LowerStep (below_by side) borders w) i j
+  path-lower : (w t : Rank) → below_by side t w ≡ true → {x y : Rank} → JoinedBy m side t x y → (i j : ℕ) → HasPlace m places x i → HasPlace m places y j
+      → Reach (LowerStep (below_by side) borders w) i j
   path-lower w t low (here {a = x}) i j h k = subst (λ n. Reach (LowerStep (below_by side) borders w) i n) (place-one m places x i j h k) here
   path-lower w t low (step {a = x} {b = y} {c = z} s r) i j h k =
       let o = placed y (Near-to m x y s.0) in

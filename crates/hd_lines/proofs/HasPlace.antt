@@ -64,7 +64,8 @@ module _ (m : Map) (whole : IsMap m) (side : SideName) (thousandths : ℕ) (step
   pub kept-rises : AllPairs (λ a b. a.pit.index < b.pit.index) kept
   kept-rises i j d less inside =
       let pit : Kept → Rank = λ k. k.pit in
-      let ordered : AllPairs (λ (a : Rank) (b : Rank). a.index < b.index) (map pit kept) = subst (λ (ps : List Rank). AllPairs (λ (a : Rank) (b : Rank). a.index < b.index) ps) (sym pruned.are_kept.pits) AreOwners-kept.in_order in
+      let ordered : AllPairs (λ (a : Rank) (b : Rank). a.index < b.index) (map pit kept) = subst (λ (ps : List Rank). AllPairs (λ (a : Rank) (b : Rank). a.index < b.index) ps)
+      (sym pruned.are_kept.pits) AreOwners-kept.in_order in
       let read : (k : ℕ) → k < length kept → get_or (map pit kept) k d.pit ≡ (get_or kept k d).pit = λ k within. get_or-map pit kept k d d.pit within in
       let h = ordered i j d.pit less (subst (λ n. j < n) (sym (length-map kept pit)) inside) in
       subst (λ (a : Rank). a.index < (get_or kept j d).pit.index) (read i (omega arith)) (subst (λ (b : Rank). (get_or (map pit kept) i d.pit).index < b.index) (read j inside) h)
@@ -82,7 +83,8 @@ module _ (m : Map) (whole : IsMap m) (side : SideName) (thousandths : ℕ) (step
   pub rises-at : (i j : ℕ) (a b : Kept) → i < j → slice_get kept i ≡ Some a → slice_get kept j ≡ Some b → a.pit.index < b.pit.index
   rises-at i j a b less at_a at_b =
       let h = kept-rises i j a less (slice_get_within kept j b at_b) in
-      subst (λ (z : Kept). z.pit.index < b.pit.index) (get_or_from_slice_get kept i a a at_a) (subst (λ (z : Kept). (get_or kept i a).pit.index < z.pit.index) (get_or_from_slice_get kept j b a at_b) h)
+      subst (λ (z : Kept). z.pit.index < b.pit.index) (get_or_from_slice_get kept i a a at_a)
+      (subst (λ (z : Kept). (get_or kept i a).pit.index < z.pit.index) (get_or_from_slice_get kept j b a at_b) h)
 
   pub place-rises : (i j : ℕ) (a b : Kept) → a.pit.index < b.pit.index → slice_get kept i ≡ Some a → slice_get kept j ≡ Some b → i < j
   place-rises i j a b less at_a at_b = elim (less_same_more i j) [
@@ -143,7 +145,8 @@ module _ (m : Map) (whole : IsMap m) (side : SideName) (thousandths : ℕ) (step
           ∙ ap (option_map (λ (p : Rank). record { pit = p; owner = pruned.owner p })) (found.2 ∙ ap Some same) in
           record {
             point = point;
-            place = are.each x.index number i (record { pit = r; owner = pruned.owner r }) k (slice_get-get_or regions.numbers x.index 0 (number-inside x point)) owned at (ap (λ (z : Rank). z.index) e);
+            place = are.each x.index number i (record { pit = r; owner = pruned.owner r }) k (slice_get-get_or regions.numbers x.index 0 (number-inside x point)) owned at
+                (ap (λ (z : Rank). z.index) e);
           }
 
       -- and there is one
@@ -181,7 +184,8 @@ module _ (m : Map) (whole : IsMap m) (side : SideName) (thousandths : ℕ) (step
           let b = HasPlace-owner y j h' in
           let ra = a.2 in
           let rb = b.2 in
-          let different : pruned.owner ra.root ≢ pruned.owner rb.root = λ e. apart (one_place (λ (z : Kept). z.pit.index) kept kept-once i j a.0 b.0 a.1 b.1 (ap (λ (z : Rank). z.index) (sym ra.owned ∙ e ∙ rb.owned))) in
+          let different : pruned.owner ra.root ≢ pruned.owner rb.root = λ e. apart
+          (one_place (λ (z : Kept). z.pit.index) kept kept-once i j a.0 b.0 a.1 b.1 (ap (λ (z : Rank). z.index) (sym ra.owned ∙ e ∙ rb.owned))) in
           subst (λ (z : Rank). JoinedBy m side (higher_by side x y) z (pit_at kept j)) (ra.owned ∙ sym (pit_at-is kept i a.0 a.1))
           (subst (λ (z : Rank). JoinedBy m side (higher_by side x y) (pruned.owner ra.root) z) (rb.owned ∙ sym (pit_at-is kept j b.0 b.1))
           (JoinedBy-neighbours m side pruned.last pruned.owner AreOwners-kept x y ra.root rb.root near ra.is_root rb.is_root different))

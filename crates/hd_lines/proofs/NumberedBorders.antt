@@ -25,7 +25,8 @@ use Rattle.hd_lines.specs.FirstJoins.{AreEnds, AreFirstJoins, LowerStep}
 pub AreNumberedBorders-none : (borders : List Border) → AreNumberedBorders borders 0 []
 AreNumberedBorders-none borders = record { each = λ x at. absurd (let inside = at.1 in omega arith); all = λ k l less at. absurd (omega arith) }
 
-pub AreNumberedBorders-more : (borders : List Border) (n : ℕ) (d : Border) (numbered : List NumberedBorder) → n < length borders → AreNumberedBorders borders n numbered → AreNumberedBorders borders (n + 1) (numbered ++ numbered_border n (get_or borders n d) ∷ [])
+pub AreNumberedBorders-more : (borders : List Border) (n : ℕ) (d : Border) (numbered : List NumberedBorder) → n < length borders → AreNumberedBorders borders n numbered
+    → AreNumberedBorders borders (n + 1) (numbered ++ numbered_border n (get_or borders n d) ∷ [])
 AreNumberedBorders-more borders n d numbered inside are =
     let l : Border = get_or borders n d in
     let read : slice_get borders n ≡ Some l = slice_get-get_or borders n d inside in
@@ -36,7 +37,8 @@ AreNumberedBorders-more borders n d numbered inside are =
       ];
       all = λ k b less at. elim (cases_eq k n) [
         | inl e ↦ (let is : l ≡ b = same_Some l b (sym read ∙ ap (λ j. slice_get borders j) (sym e) ∙ at) in
-            subst (λ j. Contains (numbered ++ numbered_border n l ∷ []) (numbered_border j b)) (sym e) (subst (λ (c : Border). Contains (numbered ++ numbered_border n l ∷ []) (numbered_border n c)) is (Contains-push numbered (numbered_border n l))))
+            subst (λ j. Contains (numbered ++ numbered_border n l ∷ []) (numbered_border j b)) (sym e)
+            (subst (λ (c : Border). Contains (numbered ++ numbered_border n l ∷ []) (numbered_border n c)) is (Contains-push numbered (numbered_border n l))))
         | inr ne ↦ Contains-append_left numbered (numbered_border n l ∷ []) (numbered_border k b) (are.all k b (omega arith) at)
       ];
     }
@@ -98,7 +100,8 @@ module _ (numbered : List NumberedBorder) (n : ℕ) (c : NumberedBorder) (at : s
     λ r. all-within (within (λ u v h. (same u v).1 h) ((same c.a c.b).1 one)) r,
   )
 
-  pub AreJoinedTo-more : (apart : Bool) → (apart ≡ true → Joins old c.a c.b new) → (apart ≡ false → AreOneClass old c.a c.b) → (apart ≡ false → (u v : ℕ) → AreOneClass new u v ↔ AreOneClass old u v) → AreJoinedTo numbered (n + 1) new
+  pub AreJoinedTo-more : (apart : Bool) → (apart ≡ true → Joins old c.a c.b new) → (apart ≡ false → AreOneClass old c.a c.b)
+      → (apart ≡ false → (u v : ℕ) → AreOneClass new u v ↔ AreOneClass old u v) → AreJoinedTo numbered (n + 1) new
   AreJoinedTo-more true joins one same = AreJoinedTo-apart (joins refl)
   AreJoinedTo-more false joins one same = AreJoinedTo-together (one refl) (same refl)
 
@@ -114,7 +117,8 @@ module _ (below : Rank → Rank → Bool) (order : IsStrictOrder below) where
     in_places : (i j : ℕ) (x y : NumberedBorder) → i ≤ j → slice_get numbered i ≡ Some x → slice_get numbered j ≡ Some y → IsNotAbove below x.at y.at
     in_places i j x y le atx aty =
         let h = sorted_far (is_lower below) is_lower-weak numbered sorted i j x le (slice_get_within numbered j y aty) in
-        subst (λ (v : NumberedBorder). IsNotAbove below v.at y.at) (get_or_from_slice_get numbered i x x atx) (subst (λ (v : NumberedBorder). IsNotAbove below (get_or numbered i x).at v.at) (get_or_from_slice_get numbered j y x aty) h)
+        subst (λ (v : NumberedBorder). IsNotAbove below v.at y.at) (get_or_from_slice_get numbered i x x atx)
+        (subst (λ (v : NumberedBorder). IsNotAbove below (get_or numbered i x).at v.at) (get_or_from_slice_get numbered j y x aty) h)
 
     pub AreLower-more : (n : ℕ) (c : NumberedBorder) (level : Rank) → slice_get numbered n ≡ Some c → below c.at level ≡ true → AreLower below numbered n level → AreLower below numbered (n + 1) level
     AreLower-more n c level at low before k x less atx = elim (cases_eq k n) [
@@ -123,7 +127,8 @@ module _ (below : Rank → Rank → Bool) (order : IsStrictOrder below) where
     ]
 
     -- where the next is not below the level, none after it is
-    pub BordersSplitAt-here : (n : ℕ) (c : NumberedBorder) (level : Rank) → slice_get numbered n ≡ Some c → below c.at level ≡ false → AreLower below numbered n level → BordersSplitAt below numbered n level
+    pub BordersSplitAt-here : (n : ℕ) (c : NumberedBorder) (level : Rank) → slice_get numbered n ≡ Some c → below c.at level ≡ false → AreLower below numbered n level
+        → BordersSplitAt below numbered n level
     BordersSplitAt-here n c level at high before = record { lower = before; not_lower = λ k x le atx. not_above-trans below order level c.at x.at high (in_places n k c x le at atx) }
 
     pub BordersSplitAt-end : (n : ℕ) (level : Rank) → length numbered ≤ n → AreLower below numbered n level → BordersSplitAt below numbered n level
@@ -152,15 +157,18 @@ module _ (below : Rank → Rank → Bool) (order : IsStrictOrder below) where
           let b_old : AreOneClass old x.b other = (same_mid x.b other).0 b in
           let ends : AreOneClass old one other = class-trans old one x.a other (class-sym old x.a one a) (class-trans old x.a x.b other together b_old) in
           is_apart e (least-same new one other ((leasts one).1 least_a) least_b ((same_new one other).1 ((same_mid one other).1 ends))),
-      λ none. apart_is (λ e. none (steps-lower n x.at split ((joined x.a x.b).0 (class-trans old x.a one x.b a (class-sym old x.b one (subst (AreOneClass old x.b) (sym e) ((same_mid x.b other).0 b))))))),
+      λ none. apart_is (λ e. none (steps-lower n x.at split ((joined x.a x.b).0 (class-trans old x.a one x.b a
+          (class-sym old x.b one (subst (AreOneClass old x.b) (sym e) ((same_mid x.b other).0 b))))))),
     )
 
     -- what is below a border is below those after it
-    pub AreLower-next : (n i : ℕ) (x : NumberedBorder) → slice_get numbered i ≡ Some x → BordersSplitAt below numbered n x.at → (j : ℕ) (y : NumberedBorder) → i + 1 ≤ j → slice_get numbered j ≡ Some y → AreLower below numbered n y.at
+    pub AreLower-next : (n i : ℕ) (x : NumberedBorder) → slice_get numbered i ≡ Some x → BordersSplitAt below numbered n x.at → (j : ℕ) (y : NumberedBorder) → i + 1 ≤ j
+        → slice_get numbered j ≡ Some y → AreLower below numbered n y.at
     AreLower-next n i x at split j y le aty k z less atz = below-along below order z.at x.at y.at (split.lower k z less atz) (in_places i j x y (omega arith) at aty)
 
     -- one more is marked
-    pub AreMarked-more : ((x y : NumberedBorder) → Contains numbered x → Contains numbered y → x.number ≡ y.number → x ≡ y) → (numbers n : ℕ) (x : NumberedBorder) → slice_get numbered n ≡ Some x → x.number < numbers
+    pub AreMarked-more : ((x y : NumberedBorder) → Contains numbered x → Contains numbered y → x.number ≡ y.number → x ≡ y) → (numbers n : ℕ) (x : NumberedBorder)
+        → slice_get numbered n ≡ Some x → x.number < numbers
         → (firsts : List Bool) (first : Bool) → AreMarked below numbered numbers n firsts → IsFirstOf below numbered x first → AreMarked below numbered numbers (n + 1) (set firsts x.number first)
     AreMarked-more one numbers n x at inside firsts first before is = record {
       whole = length-set firsts x.number first ∙ before.whole;

@@ -39,7 +39,8 @@ module _ (m : Map) (side : SideName) where
     pub joined : (t p q : Rank) → IsPit m side p → IsPit m side q → JoinedBy m side t p q → (owner p ≡ owner q) ⊎ JoinedBy m side t p (owner p)
 
   -- at first each pit is its own owner
-  pub AreOwners-first : (pits : List Rank) → ((p : Rank) → Contains pits p → IsPit m side p) → ((p : Rank) → IsPit m side p → Contains pits p) → AllPairs (λ a b. a.index < b.index) pits → AreOwners pits (λ p. p)
+  pub AreOwners-first : (pits : List Rank) → ((p : Rank) → Contains pits p → IsPit m side p) → ((p : Rank) → IsPit m side p → Contains pits p)
+      → AllPairs (λ a b. a.index < b.index) pits → AreOwners pits (λ p. p)
   AreOwners-first pits is_pit listed ordered = record { in_order = ordered; among = is_pit; own = λ q at. refl; kept_owner = listed; joined = λ t p q is is' j. inr here }
 
   -- a step keeps that
@@ -124,7 +125,8 @@ module _ (m : Map) (side : SideName) where
       joined = after-joined;
     }
 
-  owners-last : (thousandths : ℕ) (sz : ℤ) {kept last : List Rank} {owner ends : Rank → Rank} {steps : List Leaving} → AreOwners kept owner → Prunes m side thousandths sz kept owner steps last ends → AreOwners last ends
+  owners-last : (thousandths : ℕ) (sz : ℤ) {kept last : List Rank} {owner ends : Rank → Rank} {steps : List Leaving} → AreOwners kept owner
+      → Prunes m side thousandths sz kept owner steps last ends → AreOwners last ends
   owners-last thousandths sz w (over none) = w
   owners-last thousandths sz {kept} {last} {owner} {ends} w (goes_on {x = x} taken rest) = owners-last thousandths sz (owners-step thousandths sz kept owner w x taken) rest
 

@@ -179,7 +179,8 @@ module _ (m : Map) (side : SideName) (last : List Rank) (owner : Rank → Rank) 
         ]
 
     -- a border line of the pit whose pass is not above the saddle is at it
-    line-at : (line : BorderLine) → IsBorderLine m side last owner line → (o : Rank) → Contains last o → o ≢ p → ((u : Rank) → IsSaddle m side line.a line.b u → IsSaddle m side p o u) → IsNotAbove (below_by side) line.pass s
+    line-at : (line : BorderLine) → IsBorderLine m side last owner line → (o : Rank) → Contains last o → o ≢ p
+        → ((u : Rank) → IsSaddle m side line.a line.b u → IsSaddle m side p o u) → IsNotAbove (below_by side) line.pass s
         → (line.pass ≡ s) × (line.on_saddle ≡ true)
     line-at line is o at_o ne turned low =
         let u = pass-above line is in
@@ -188,7 +189,8 @@ module _ (m : Map) (side : SideName) (last : List Rank) (owner : Rank → Rank) 
         let at_pass : u.0 ≡ line.pass = (below_by-order side).total u.0 line.pass (subst (λ (z : Rank). IsNotAbove (below_by side) z u.0) (sym same) high) u.2 in
         (same, is.on_saddle.1 (subst (λ (z : Rank). IsSaddle m side line.a line.b z) at_pass u.1))
 
-    line-nearest : (lines : List BorderLine) → AreBorderLines m side last owner lines → (line : BorderLine) × Contains lines line × ((line.a ≡ p) ⊎ (line.b ≡ p)) × (line.pass ≡ s) × (line.on_saddle ≡ true)
+    line-nearest : (lines : List BorderLine) → AreBorderLines m side last owner lines → (line : BorderLine) × Contains lines line × ((line.a ≡ p) ⊎ (line.b ≡ p)) × (line.pass ≡ s)
+        × (line.on_saddle ≡ true)
     line-nearest lines are =
         let x : Rank = beside.0 in
         let y : Rank = beside.1 in
@@ -215,16 +217,19 @@ module _ (m : Map) (side : SideName) (last : List Rank) (owner : Rank → Rank) 
                 let is = are.each l.0 l.1 in
                 let low = is.pairs.least (record { from = y; to = x }) (subst (λ (z : Rank). IsAcross m (IsOwnedBy m side owner) z (l.0).b (record { from = y; to = x })) (sym l.2)
                 (subst (λ (z : Rank). IsAcross m (IsOwnedBy m side owner) o z (record { from = y; to = x })) (sym l.3) across)) in
-                let at_s = line-at l.0 is o at_o b.elsewhere (λ u h. saddle-sym m side o p u (subst (λ (z : Rank). IsSaddle m side z p u) l.2 (subst (λ (z : Rank). IsSaddle m side (l.0).a z u) l.3 h)))
+                let at_s = line-at l.0 is o at_o b.elsewhere (λ u h. saddle-sym m side o p u
+                (subst (λ (z : Rank). IsSaddle m side z p u) l.2 (subst (λ (z : Rank). IsSaddle m side (l.0).a z u) l.3 h)))
                 (subst (λ (z : Rank). IsNotAbove (below_by side) (l.0).pass z) (higher-sym side y x ∙ b.higher) low) in
                 (l.0, l.1, inr l.3, at_s.0, at_s.1)
           ]
         ]
 
 module _ (m : Map) (side : SideName) (thousandths : ℕ) (steps : List Leaving) (last : List Rank) (owner : Rank → Rank) (lines : List BorderLine) where
-  pub AreBorderLines-passes_above : IsPruning m side thousandths steps last owner → AreBorderLines m side last owner lines → (line : BorderLine) → Contains lines line → (s : Rank) × IsSaddle m side line.a line.b s × IsNotAbove (below_by side) s line.pass
+  pub AreBorderLines-passes_above : IsPruning m side thousandths steps last owner → AreBorderLines m side last owner lines → (line : BorderLine) → Contains lines line → (s : Rank)
+      × IsSaddle m side line.a line.b s × IsNotAbove (below_by side) s line.pass
   AreBorderLines-passes_above pruning are line at = pass-above m side last owner (AreOwners-pruned m side thousandths steps last owner pruning) line (are.each line at)
 
-  pub AreBorderLines-nearest_passes : IsMap m → IsPruning m side thousandths steps last owner → AreBorderLines m side last owner lines → (p s : Rank) → Contains last p → IsNearestSaddle m side last p s
+  pub AreBorderLines-nearest_passes : IsMap m → IsPruning m side thousandths steps last owner → AreBorderLines m side last owner lines → (p s : Rank) → Contains last p
+      → IsNearestSaddle m side last p s
       → (line : BorderLine) × Contains lines line × ((line.a ≡ p) ⊎ (line.b ≡ p)) × (line.pass ≡ s) × (line.on_saddle ≡ true)
   AreBorderLines-nearest_passes whole pruning are p s at nearest = line-nearest m side last owner (AreOwners-pruned m side thousandths steps last owner pruning) whole p s at nearest lines are

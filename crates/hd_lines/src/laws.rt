@@ -14,7 +14,8 @@ ghost use Rattle.hd_lines.specs.Lines.{AreBorderLines};
 
 /// The two pits of a border line have a saddle, and the pass of the line is not below it.
 pub fn passes_are_not_below_saddles()
-    ensures { (m : Map) (side : SideName) (thousandths : ℕ) (steps : List Leaving) (last : List Rank) (owner : Rank → Rank) (lines : List BorderLine)
+    ensures { (m : Map) (side : SideName) (thousandths : ℕ) (steps : List Leaving)
+        (last : List Rank) (owner : Rank → Rank) (lines : List BorderLine)
         → IsPruning m side thousandths steps last owner → AreBorderLines m side last owner lines
         → (line : BorderLine) → Contains lines line → (s : Rank) × IsSaddle m side line.a line.b s × IsNotAbove (below_by side) s line.pass }
 {}
@@ -22,7 +23,8 @@ pub fn passes_are_not_below_saddles()
 /// A kept pit with a nearest saddle is an end of a border line whose pass is that saddle, and which says that
 /// this is the saddle of its two pits.
 pub fn nearest_saddles_are_passes()
-    ensures { (m : Map) (side : SideName) (thousandths : ℕ) (steps : List Leaving) (last : List Rank) (owner : Rank → Rank) (lines : List BorderLine)
+    ensures { (m : Map) (side : SideName) (thousandths : ℕ) (steps : List Leaving)
+        (last : List Rank) (owner : Rank → Rank) (lines : List BorderLine)
         → IsMap m → IsPruning m side thousandths steps last owner → AreBorderLines m side last owner lines
         → (p s : Rank) → Contains last p → IsNearestSaddle m side last p s
         → (line : BorderLine) × Contains lines line × ((line.a ≡ p) ⊎ (line.b ≡ p)) × (line.pass ≡ s) × (line.on_saddle ≡ true) }
@@ -30,6 +32,7 @@ pub fn nearest_saddles_are_passes()
 
 /// The kept pits and the owners of all pits determine the list of border lines.
 pub fn border_lines_are_determined()
-    ensures { (m : Map) (side : SideName) (kept : List Rank) (mine yours : Rank → Rank) (xs ys : List BorderLine)
+    ensures { (m : Map) (side : SideName) (kept : List Rank) (mine yours : Rank → Rank)
+        (xs ys : List BorderLine)
         → ((r : Rank) → IsPit m side r → mine r ≡ yours r) → AreBorderLines m side kept mine xs → AreBorderLines m side kept yours ys → xs ≡ ys }
 {}

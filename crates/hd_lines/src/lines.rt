@@ -27,8 +27,10 @@ pub fn border_lines<S: Side, G: Heights>(
     pruned: &Pruned,
 ) -> Result<List<BorderLine>, Memory>
     requires regions { AreNumbered (G.map grid.now) S.NAME regions.now }
-    requires pruned { (thousandths : ℕ) × IsPruned (G.map grid.now) S.NAME thousandths pruned.now.steps pruned.now.kept pruned.now.owners }
-    ensures { IfOk result (AreLinesOf (G.map grid.now) S.NAME pruned.now.steps pruned.now.kept pruned.now.owners) }
+    requires pruned { (thousandths : ℕ) × IsPruned
+        (G.map grid.now) S.NAME thousandths pruned.now.steps pruned.now.kept pruned.now.owners }
+    ensures { IfOk result (AreLinesOf (G.map grid.now) S.NAME pruned.now.steps pruned.now.kept
+        pruned.now.owners) }
 {
     let kept = pruned.kept.as_slice();
     let borders = {

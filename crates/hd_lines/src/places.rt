@@ -19,9 +19,12 @@ pub fn owner_places(
     requires whole { length owners.now ≡ length regions.now.pits }
     requires kept { All (λ k. IsNumbered regions.now k.pit.index) kept.now }
     requires owners { All (λ o. IsNumbered regions.now o.owner.index) owners.now }
-    requires once { AllPairs (λ a b. slice_index regions.now.numbers a.pit.index ≢ slice_index regions.now.numbers b.pit.index) kept.now }
-    ensures places { IfOk result (λ places. AreOwnerPlaces kept.now owners.now regions.now.numbers places.items) }
-    ensures within { IfOk result (λ places. (room : ℕ) → 0 < room → length kept.now ≤ room → All (λ p. p < room) places.items) }
+    requires once { AllPairs (λ a b. slice_index regions.now.numbers a.pit.index
+        ≢ slice_index regions.now.numbers b.pit.index) kept.now }
+    ensures places { IfOk result (λ places. AreOwnerPlaces kept.now owners.now regions.now.numbers
+        places.items) }
+    ensures within { IfOk result (λ places. (room : ℕ) → 0 < room → length kept.now ≤ room
+        → All (λ p. p < room) places.items) }
 {
     let places = kept_places(alloc, kept, regions)?;
     let places = pit_places(alloc, owners, regions, &places)?;
@@ -32,10 +35,13 @@ pub fn owner_places(
 fn kept_places(alloc: Global, kept: &[Kept], regions: &Regions) -> Result<Vec<u32>, Memory>
     requires few { length kept.now < 2 ^ 32 }
     requires kept { All (λ k. IsNumbered regions.now k.pit.index) kept.now }
-    requires once { AllPairs (λ a b. slice_index regions.now.numbers a.pit.index ≢ slice_index regions.now.numbers b.pit.index) kept.now }
+    requires once { AllPairs (λ a b. slice_index regions.now.numbers a.pit.index
+        ≢ slice_index regions.now.numbers b.pit.index) kept.now }
     ensures whole { IfOk result (λ places. length places.items ≡ length regions.now.pits) }
-    ensures places { IfOk result (λ places. AreKeptPlaces kept.now regions.now.numbers (length kept.now) places.items) }
-    ensures within { IfOk result (λ places. (room : ℕ) → 0 < room → length kept.now ≤ room → All (λ p. p < room) places.items) }
+    ensures places { IfOk result (λ places. AreKeptPlaces kept.now regions.now.numbers
+        (length kept.now) places.items) }
+    ensures within { IfOk result (λ places. (room : ℕ) → 0 < room → length kept.now ≤ room
+        → All (λ p. p < room) places.items) }
 {
     let mut places = vec![in alloc; 0u32; regions.pits().len()]?;
     'pits: for (place, one) in kept.iter().enumerate() {
@@ -53,7 +59,8 @@ fn pit_places(
 ) -> Result<Vec<u32>, Memory>
     requires whole { length kept.now ≡ length regions.now.pits }
     requires owners { All (λ o. IsNumbered regions.now o.owner.index) owners.now }
-    ensures { IfOk result (λ places. places.items ≡ map (place_of_owner regions.now.numbers kept.now) owners.now) }
+    ensures { IfOk result (λ places. places.items
+        ≡ map (place_of_owner regions.now.numbers kept.now) owners.now) }
 {
     let mut places = Vec::with_capacity(alloc, owners.len())?;
     'pits: for owned in owners {

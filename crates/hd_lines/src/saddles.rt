@@ -52,9 +52,11 @@ fn mark_firsts<S: Side>(
     requires sorted { IsSortedBy (is_lower (below_by S.NAME)) borders.now }
     requires within { All (HasEnds count) borders.now }
     requires numbered { All (λ x. x.number < numbers) borders.now }
-    requires one { (x y : NumberedBorder) → Contains borders.now x → Contains borders.now y → x.number ≡ y.number → x ≡ y }
+    requires one { (x y : NumberedBorder) → Contains borders.now x → Contains borders.now y
+        → x.number ≡ y.number → x ≡ y }
     requires few { count < 2 ^ 32 }
-    ensures { IfOk result (λ firsts. AreMarked (below_by S.NAME) borders.now numbers (length borders.now) firsts.items) }
+    ensures { IfOk result (λ firsts. AreMarked (below_by S.NAME) borders.now numbers
+        (length borders.now) firsts.items) }
 {
     let mut firsts = vec![in alloc; false; numbers]?;
     let mut classes = Classes::new(alloc, count)?;

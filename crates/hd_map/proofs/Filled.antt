@@ -81,7 +81,8 @@ module _ {L : Type 0} (code : Encoding L) (m : Map) (y : ℕ) where
 
   -- all columns
   pub filled_row : (x : ℕ) (all : Bool) (row : List L) → m.size.points ≤ x → IsFilled x all row → OnTrue all (IsRowOfHeights code m y row)
-  filled_row x all row done filled = OnTrue_from all (IsRowOfHeights code m y row) (λ e. let heights = filled.near e in record { whole = heights.whole; each = λ k below. heights.each k (omega (arith, below, done)) })
+  filled_row x all row done filled = OnTrue_from all (IsRowOfHeights code m y row)
+      (λ e. let heights = filled.near e in record { whole = heights.whole; each = λ k below. heights.each k (omega (arith, below, done)) })
 
   pub filled_far : (x : ℕ) (all : Bool) (row : List L) → IsFilled x all row → OnFalse all (IsFarProfile code m y)
   filled_far x all row filled = OnFalse_from all (IsFarProfile code m y) filled.far

@@ -37,7 +37,8 @@ pub step_of : (m : Map) (at q : Pos) (step : ℕ) → Neighbour m at q → step 
 step_of m at q step n below e = only_one at q step below (omega (arith, n.columns)) (omega (arith, n.columns)) (omega (arith, n.rows)) (omega (arith, n.rows)) e
 
 -- what is present and beside the point at a step is a neighbour
-pub step_neighbour : (m : Map) (at q : Pos) (step : ℕ) → Present m at → Present m q → AreBesideUnder m.adjacency at q → step < 9 → (step ≡ 4 → ⊥) → q.x + 1 ≡ at.x + step % 3 → q.y + 1 ≡ at.y + step / 3 → Neighbour m at q
+pub step_neighbour : (m : Map) (at q : Pos) (step : ℕ) → Present m at → Present m q → AreBesideUnder m.adjacency at q → step < 9 → (step ≡ 4 → ⊥) → q.x + 1 ≡ at.x + step % 3
+    → q.y + 1 ≡ at.y + step / 3 → Neighbour m at q
 step_neighbour m at q step here there beside below apart ex ey = record {
   from = here;
   to = there;

@@ -59,7 +59,8 @@ module _ {H : Type 0} (height : H → ℤ) (s : Size) (t : DataType) (ns : List 
     set_whole x numbers marks so_far = subst IsMap (sym so_far.is) (heights_kept before y whole (take x heights) (heights_taken before heights x of_type))
 
     -- one column more
-    pub set_more : (x : ℕ) (numbers : List H) (marks : List Mark) (number d : H) (mark : Mark) (new : Option ℤ) → InGrid s (record { x = x; y = y }) → AreSetTo x numbers marks → new ≡ get_or heights x None
+    pub set_more : (x : ℕ) (numbers : List H) (marks : List Mark) (number d : H) (mark : Mark) (new : Option ℤ) → InGrid s (record { x = x; y = y }) → AreSetTo x numbers marks
+        → new ≡ get_or heights x None
         → MatchOption new (number ≡ get_or numbers (place_of s (record { x = x; y = y })) d) (λ z. height number ≡ z)
         → measures mark ≡ (is_some new || measures (get_or marks (place_of s (record { x = x; y = y })) Shown)) → masks mark ≡ masks (get_or marks (place_of s (record { x = x; y = y })) Shown)
         → AreSetTo (x + 1) (set numbers (place_of s (record { x = x; y = y })) number) (set marks (place_of s (record { x = x; y = y })) mark)

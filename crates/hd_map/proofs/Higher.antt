@@ -44,7 +44,8 @@ module _ (side : SideName) where
       let c_left = not_above-trans below order c (higher_by side b c) left bc.1 l.1 in
       let a_right = not_above-trans below order a (higher_by side a b) right ab.0 r.0 in
       let b_right = not_above-trans below order b (higher_by side a b) right ab.1 r.0 in
-      order.total left right (higher-least (higher_by side a b) c left (higher-least a b left l.0 b_left) c_left) (higher-least a (higher_by side b c) right a_right (higher-least b c right b_right r.1))
+      order.total left right (higher-least (higher_by side a b) c left (higher-least a b left l.0 b_left) c_left)
+      (higher-least a (higher_by side b c) right a_right (higher-least b c right b_right r.1))
 
 -- what is not above another, and is another, is below it
 pub not_above-below : (side : SideName) (a b : Rank) → IsNotAbove (below_by side) a b → (a ≡ b → ⊥) → below_by side a b ≡ true

@@ -1,12 +1,15 @@
 -- What is packed is read again, and a point that is set or added keeps the others.
-use Rattle.std.proofs.Common.{◌≡◌, ◌<◌, ◌+◌, ◌-◌, ◌*ℤ◌, ◌++◌, ◌≤◌, ◌&&◌, ℕ, ℤ, zero, suc, Bool, false, not, Some, None, List, [], ◌∷◌, length, get_or, set, take, drop, map, replicate, inl, inr, ap, ap₂, append-nil, sym, refl, ◌∙◌, arith}
+use Rattle.std.proofs.Common.{◌≡◌, ◌<◌, ◌+◌, ◌-◌, ◌*ℤ◌, ◌++◌, ◌≤◌, ◌&&◌, ℕ, ℤ, zero, suc, Bool, false, not, Some, None, List, [], ◌∷◌, length, get_or}
+use Rattle.std.proofs.Common.{set, take, drop, map, replicate, inl, inr, ap, ap₂, append-nil, sym, refl, ◌∙◌, arith}
 use Rattle.std.specs.Int.{int_wrap, w64}
 use Rattle.std.specs.Prelude.{if◌then◌else◌}
 use Rattle.std.specs.Simd.Lanes.{zip2}
 use Rattle.std.proofs.Math.Seq.{map-set_same, take-append_seam}
 use Rattle.std.proofs.lemmas.Bool.{cases_Bool, cases_lt}
 use Rattle.std.proofs.lemmas.Int.{int_wrap_fits}
-use Rattle.std.proofs.lemmas.List.{get_or_default, get_or-replicate, length-append, length-replicate, length-map, map-append, map-set, get_or-append_right, get_or-map, get_or_append_left, get_or_push, replicate-append-replicate, replicate_more, take_more_set, take_all, drop_all, length_push}
+use Rattle.std.proofs.lemmas.List.{get_or_default, get_or-replicate, length-append, length-replicate, length-map, map-append, map-set}
+use Rattle.std.proofs.lemmas.List.{get_or-append_right, get_or-map, get_or_append_left, get_or_push, replicate-append-replicate, replicate_more}
+use Rattle.std.proofs.lemmas.List.{take_more_set, take_all, drop_all, length_push}
 use Rattle.std.proofs.lemmas.List.Edits.{map_over_more}
 use Rattle.std.proofs.lemmas.Simd.{get_or-zip2, length-zip2}
 use Rattle.hd_map.specs.declared.types.Adjacency.{Adjacency}
@@ -57,7 +60,8 @@ module _ {X Y Z : Type 0} (f : X → Y → Z) where
   zip2-append (a ∷ xs) us (b ∷ ys) vs e = ap (λ zs. f a b ∷ zs) (zip2-append xs us ys vs (omega arith))
 
 -- what a mark shows of a number
-shown_by : {H : Type 0} (height : H → ℤ) (number : H) (mark : Mark) → shown_height (cell_from height number mark) (masks mark) ≡ (if measures mark && not (masks mark) then Some (height number) else None)
+shown_by : {H : Type 0} (height : H → ℤ) (number : H) (mark : Mark) → shown_height (cell_from height number mark) (masks mark)
+    ≡ (if measures mark && not (masks mark) then Some (height number) else None)
 shown_by height number Shown = refl
 shown_by height number Masked = refl
 shown_by height number Unmeasured = refl
@@ -78,7 +82,8 @@ module _ {H : Type 0} (height : H → ℤ) (s : Size) (t : DataType) (numbers : 
 
   -- the cell is that of the number and the mark
   pub cell_read : (d : H) → cell_at kept at ≡ cell_from height (get_or numbers k d) mark
-  cell_read d = ap (λ (i : ℕ). get_or kept.cells i Bad) (sym here) ∙ get_or-zip2 (cell_from height) numbers marks k d mark Bad (rw paired inside) inside ∙ ap (cell_from height (get_or numbers k d)) (sym is)
+  cell_read d = ap (λ (i : ℕ). get_or kept.cells i Bad) (sym here) ∙ get_or-zip2 (cell_from height) numbers marks k d mark Bad (rw paired inside) inside
+      ∙ ap (cell_from height (get_or numbers k d)) (sym is)
 
   mask_read : mask_at kept at ≡ masks mark
   mask_read = ap (λ (i : ℕ). get_or kept.masks i false) (sym here) ∙ get_or-map masks marks k mark false inside ∙ ap masks (sym is)
@@ -92,10 +97,12 @@ module _ {H : Type 0} (height : H → ℤ) (s : Size) (t : DataType) (numbers : 
   height_read d = rw (cell_read d, mask_read) refl
 
   -- setting a number and a mark sets the cell, where the mask stays
-  pub cell_set : (number : H) (new : Mark) (cell : Cell) → cell_from height number new ≡ cell → masks new ≡ masks mark → kept_map height s t (set numbers k number) (set marks k new) adjacency ≡ with_cell kept at cell
+  pub cell_set : (number : H) (new : Mark) (cell : Cell) → cell_from height number new ≡ cell → masks new ≡ masks mark
+      → kept_map height s t (set numbers k number) (set marks k new) adjacency ≡ with_cell kept at cell
   cell_set number new cell packs stays =
       ap (λ covers. with_lists s t adjacency (zip2 (cell_from height) (set numbers k number) (set marks k new)) covers) (map-set_same masks marks k new mark (stays ∙ ap masks is))
-      ∙ ap (λ cells. with_lists s t adjacency cells kept.masks) (zip2-set (cell_from height) numbers marks k number new ∙ ap (λ c. set kept.cells k c) packs ∙ ap (λ (i : ℕ). set kept.cells i cell) here)
+      ∙ ap (λ cells. with_lists s t adjacency cells kept.masks) (zip2-set (cell_from height) numbers marks k number new ∙ ap (λ c. set kept.cells k c) packs
+      ∙ ap (λ (i : ℕ). set kept.cells i cell) here)
 
   -- setting a mark sets the mask, where the mark measures as the one before
   pub mask_set : (new : Mark) (masked : Bool) → measures new ≡ measures mark → masks new ≡ masked → kept_map height s t numbers (set marks k new) adjacency ≡ with_mask kept at masked
@@ -142,11 +149,13 @@ module _ {H : Type 0} (height : H → ℤ) (numbers : List H) (marks : List Mark
   cells_push = zip2-push (cell_from height) numbers marks number mark paired
 
   -- each cell is of the data type
-  pub of_type_push : (t : DataType) → AreCellsOf t (kept_cells height numbers marks) → IsCellOf t (cell_from height number mark) → AreCellsOf t (kept_cells height (numbers ++ number ∷ []) (marks ++ mark ∷ []))
+  pub of_type_push : (t : DataType) → AreCellsOf t (kept_cells height numbers marks) → IsCellOf t (cell_from height number mark)
+      → AreCellsOf t (kept_cells height (numbers ++ number ∷ []) (marks ++ mark ∷ []))
   of_type_push t before last = rw cells_push (are_cells_push t (kept_cells height numbers marks) (cell_from height number mark) before last)
 
 -- no mask is set, with one more
-pub unmasked_push : (marks : List Mark) (mark : Mark) → map masks marks ≡ replicate (length marks) false → masks mark ≡ false → map masks (marks ++ mark ∷ []) ≡ replicate (length (marks ++ mark ∷ [])) false
+pub unmasked_push : (marks : List Mark) (mark : Mark) → map masks marks ≡ replicate (length marks) false → masks mark ≡ false
+    → map masks (marks ++ mark ∷ []) ≡ replicate (length (marks ++ mark ∷ [])) false
 unmasked_push marks mark before clear =
     map-append masks marks (mark ∷ []) ∙ ap (λ ms. ms ++ masks mark ∷ []) before ∙ ap (λ m. replicate (length marks) false ++ m ∷ []) clear
     ∙ replicate_more (length marks) false ∙ ap (λ n. replicate n false) (sym (length_push marks mark))
@@ -174,11 +183,13 @@ module _ {H : Type 0} (height : H → ℤ) (numbers more : List H) (marks others
   cells_append = zip2-append (cell_from height) numbers more marks others paired
 
   -- each cell is of the data type
-  pub of_type_append : (t : DataType) → AreCellsOf t (kept_cells height numbers marks) → AreCellsOf t (kept_cells height more others) → AreCellsOf t (kept_cells height (numbers ++ more) (marks ++ others))
+  pub of_type_append : (t : DataType) → AreCellsOf t (kept_cells height numbers marks) → AreCellsOf t (kept_cells height more others)
+      → AreCellsOf t (kept_cells height (numbers ++ more) (marks ++ others))
   of_type_append t before after = rw cells_append (are_cells_append t (kept_cells height numbers marks) (kept_cells height more others) before after)
 
 -- no mask is set, with others
-pub unmasked_append : (marks others : List Mark) → map masks marks ≡ replicate (length marks) false → map masks others ≡ replicate (length others) false → map masks (marks ++ others) ≡ replicate (length (marks ++ others)) false
+pub unmasked_append : (marks others : List Mark) → map masks marks ≡ replicate (length marks) false → map masks others ≡ replicate (length others) false
+    → map masks (marks ++ others) ≡ replicate (length (marks ++ others)) false
 unmasked_append marks others before after =
     map-append masks marks others ∙ ap₂ (λ (ms ns : List Bool). ms ++ ns) before after ∙ replicate-append-replicate (length marks) (length others) false
     ∙ ap (λ n. replicate n false) (sym (length-append marks others))
@@ -210,7 +221,8 @@ module _ {H : Type 0} (height : H → ℤ) (number : H) where
   pub unmeasured_is : (s : Size) (t : DataType) (numbers : List H) (marks : List Mark) → numbers ≡ replicate (cell_count s) number → marks ≡ replicate (cell_count s) Unmeasured
       → kept_map height s t numbers marks Eight ≡ unmeasured_map s t
   unmeasured_is s t numbers marks numbers_are marks_are =
-      rw (numbers_are, marks_are) (ap (λ cells. with_lists s t Eight cells (map masks (replicate (cell_count s) Unmeasured))) (bad_cells (cell_count s)) ∙ ap (with_lists s t Eight (replicate (cell_count s) Bad)) (no_covers (cell_count s)))
+      rw (numbers_are, marks_are) (ap (λ cells. with_lists s t Eight cells (map masks (replicate (cell_count s) Unmeasured))) (bad_cells (cell_count s))
+      ∙ ap (with_lists s t Eight (replicate (cell_count s) Bad)) (no_covers (cell_count s)))
 
 -- no point of it has a height, so it is a map
 pub unmeasured_whole : (s : Size) (t : DataType) → IsSize s → places_of t ≤ most_places → IsMap (unmeasured_map s t)
@@ -304,7 +316,8 @@ module _ (factor shown : ℤ) (same : shown ≡ factor) (xs ys : List ℤ) (i : 
 
   pub multiplied_all : length xs ≤ i → ys ≡ map (λ number. int_wrap w64 (number *ℤ shown)) (take i xs) ++ drop i xs → ys ≡ map (λ number. int_wrap w64 (number *ℤ factor)) xs
   multiplied_all all so_far =
-      so_far ∙ ap₂ (λ (first more : List ℤ). map (λ number. int_wrap w64 (number *ℤ shown)) first ++ more) (take_all i xs all) (drop_all i xs all) ∙ append-nil (map (λ number. int_wrap w64 (number *ℤ shown)) xs)
+      so_far ∙ ap₂ (λ (first more : List ℤ). map (λ number. int_wrap w64 (number *ℤ shown)) first ++ more) (take_all i xs all) (drop_all i xs all)
+      ∙ append-nil (map (λ number. int_wrap w64 (number *ℤ shown)) xs)
       ∙ ap (λ f. map (λ number. int_wrap w64 (number *ℤ f)) xs) same
 
 -- cells whose heights were multiplied

@@ -1,5 +1,6 @@
 -- Items of a list by place, after a push or a write, and of a filtered or mapped one.
-use Rattle.std.proofs.Common.{◌≡◌, ◌≢◌, ℕ, zero, suc, ◌<◌, ◌≤◌, ◌⊎◌, inl, inr, Bool, true, false, List, [], ◌∷◌, ◌++◌, length, map, cond, Some, refl, sym, ◌∙◌, ap, subst, arith, slice_get, set, get_or}
+use Rattle.std.proofs.Common.{◌≡◌, ◌≢◌, ℕ, zero, suc, ◌<◌, ◌≤◌, ◌⊎◌, inl, inr, Bool, true, false, List, [], ◌∷◌, ◌++◌, length, map, cond, Some, refl}
+use Rattle.std.proofs.Common.{sym, ◌∙◌, ap, subst, arith, slice_get, set, get_or}
 use Rattle.std.specs.Prelude.{Contains, AllPairs, filter}
 use Rattle.std.proofs.lemmas.List.{get_or-map, length-map}
 use Rattle.std.proofs.lemmas.Option.{same_Some, slice_get-get_or, slice_get_within, get_or_from_slice_get}
@@ -84,7 +85,8 @@ module _ {X : Type 0} where
           apart k l u less (slice_get_within xs l v atv) (ap key a ∙ f ∙ sym (ap key b))
 
   -- and the other way round
-  pub pairs_from_places : {K : Type 0} (key : X → K) (xs : List X) → ((i j : ℕ) (x y : X) → slice_get xs i ≡ Some x → slice_get xs j ≡ Some y → key x ≡ key y → i ≡ j) → AllPairs (λ x y. key x ≢ key y) xs
+  pub pairs_from_places : {K : Type 0} (key : X → K) (xs : List X) → ((i j : ℕ) (x y : X) → slice_get xs i ≡ Some x → slice_get xs j ≡ Some y → key x ≡ key y → i ≡ j)
+      → AllPairs (λ x y. key x ≢ key y) xs
   pairs_from_places key xs once i j d less inside e =
       let same : i ≡ j = once i j (get_or xs i d) (get_or xs j d) (slice_get-get_or xs i d (omega arith)) (slice_get-get_or xs j d inside) e in
       omega arith
@@ -113,7 +115,8 @@ module _ {X : Type 0} (test : X → Bool) where
   -- and no more of them
   pub length-filter_le : (xs : List X) → length (filter test xs) ≤ length xs
   length-filter_le [] = omega arith
-  length-filter_le (x ∷ xs) = (let less = length-filter_le xs in elim (test x) as (λ v. length (cond v (x ∷ filter test xs) (filter test xs)) ≤ length (x ∷ xs)) [ true ↦ omega (arith, less) | false ↦ omega (arith, less) ])
+  length-filter_le (x ∷ xs) = (let less = length-filter_le xs in elim (test x) as (λ v. length (cond v (x ∷ filter test xs) (filter test xs)) ≤ length (x ∷ xs))
+      [ true ↦ omega (arith, less) | false ↦ omega (arith, less) ])
 
 -- numbers of items that differ are different
 pub pairs-of_map : {X : Type 0} (number : X → ℕ) (xs : List X) → AllPairs (λ x y. number x ≢ number y) xs → AllPairs (λ a b. a ≢ b) (map number xs)

@@ -55,7 +55,8 @@ module _ (m : Map) (side : SideName) where
       (subst (λ (c : Rank). IsRoot m side c k.root) (sym b) k.across.beyond.root) in
       h.into ∙ ap owner r ∙ sym k.into
 
-  same_leaving : (p q s u o r : Rank) (l n : ℤ) → p ≡ q → l ≡ n → s ≡ u → o ≡ r → ◌≡◌ {A = Leaving} (record { pit = p; local = l; saddle = s; into = o }) (record { pit = q; local = n; saddle = u; into = r })
+  same_leaving : (p q s u o r : Rank) (l n : ℤ) → p ≡ q → l ≡ n → s ≡ u → o ≡ r → ◌≡◌ {A = Leaving} (record { pit = p; local = l; saddle = s; into = o })
+      (record { pit = q; local = n; saddle = u; into = r })
   same_leaving p q s u o r l n a b c d = cc
 
   module _ (thousandths : ℕ) (sz : ℤ) where
@@ -64,11 +65,13 @@ module _ (m : Map) (side : SideName) where
         let p : x.pit ≡ y.pit = smallest-unique kept x.pit x.saddle y.pit y.saddle h.smallest k.smallest in
         let s : x.saddle ≡ y.saddle = nearest-unique kept x.pit x.saddle y.saddle h.smallest.nearest (subst (λ (z : Rank). IsNearestSaddle m side kept z y.saddle) (sym p) k.smallest.nearest) in
         let l : x.local ≡ y.local = h.local_is ∙ ap (λ (z : Rank). pos (local_height z x.saddle)) p ∙ ap (λ (z : Rank). pos (local_height y.pit z)) s ∙ sym k.local_is in
-        let t : IsTakenOver m side owner x.pit x.saddle y.into = subst (λ (z : Rank). IsTakenOver m side owner z x.saddle y.into) (sym p) (subst (λ (z : Rank). IsTakenOver m side owner y.pit z y.into) (sym s) k.taken_over) in
+        let t : IsTakenOver m side owner x.pit x.saddle y.into = subst (λ (z : Rank). IsTakenOver m side owner z x.saddle y.into) (sym p)
+        (subst (λ (z : Rank). IsTakenOver m side owner y.pit z y.into) (sym s) k.taken_over) in
         same_leaving x.pit y.pit x.saddle y.saddle x.into y.into x.local y.local p l s (taken_over-unique owner x.pit x.saddle x.into y.into h.taken_over t)
 
     -- pruning is determined by where it starts
-    pub prunes-unique : {kept last end : List Rank} {owner mine yours : Rank → Rank} {xs ys : List Leaving} → Prunes m side thousandths sz kept owner xs last mine → Prunes m side thousandths sz kept owner ys end yours →
+    pub prunes-unique : {kept last end : List Rank} {owner mine yours : Rank → Rank} {xs ys : List Leaving} → Prunes m side thousandths sz kept owner xs last mine
+        → Prunes m side thousandths sz kept owner ys end yours →
         (xs ≡ ys) × (last ≡ end) × (mine ≡ yours)
     prunes-unique (over a) (over b) = (refl, refl, refl)
     prunes-unique (over a) (goes_on {x = y} h r) = absurd (a y h)

@@ -13,4 +13,5 @@ rank_or-present none m p here = ap (rank_shown none (place_of m.size p)) (shown_
 
 -- and where none is present
 pub rank_or-absent : (none : Rank) (m : Map) (p : Pos) → InGrid m.size p → (Present m p → ⊥) → rank_or none m p ≡ none
-rank_or-absent none m p inside absent = ap (rank_shown none (place_of m.size p)) (none_shown (cell_at m p) (mask_at m p) (λ measured shown. absent (record { in_grid = inside; measured = measured; shown = shown })))
+rank_or-absent none m p inside absent = ap (rank_shown none (place_of m.size p)) (none_shown (cell_at m p) (mask_at m p)
+    (λ measured shown. absent (record { in_grid = inside; measured = measured; shown = shown })))

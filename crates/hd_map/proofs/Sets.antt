@@ -90,7 +90,8 @@ module _ (m : Map) (y : ℕ) where
   ]
 
   -- a cell whose height comes later is not set yet
-  pub cell_not_yet : (heights : List (Option ℤ)) (x : ℕ) → InGrid m.size (record { x = x; y = y }) → cell_at (with_heights m y (take x heights)) (record { x = x; y = y }) ≡ cell_at m (record { x = x; y = y })
+  pub cell_not_yet : (heights : List (Option ℤ)) (x : ℕ) → InGrid m.size (record { x = x; y = y })
+      → cell_at (with_heights m y (take x heights)) (record { x = x; y = y }) ≡ cell_at m (record { x = x; y = y })
   cell_not_yet heights x inside =
       let at : Pos = record { x = x; y = y } in
       cell_at_heights (take x heights) at inside ∙ cell_in_profile (take x heights) at refl

@@ -79,9 +79,11 @@ impl Cells {
     pub fn extend_packed(&mut self, overs: &[u32], marks: &[Mark]) -> Result<(), Memory>
         requires paired { length overs.now ≡ length marks.now }
         requires unmasked { map masks marks.now ≡ replicate (length marks.now) false }
-        requires of_type { AreCellsOf self.old.data_type (kept_cells (over_least self.old.data_type) overs.now marks.now) }
+        requires of_type { AreCellsOf self.old.data_type
+            (kept_cells (over_least self.old.data_type) overs.now marks.now) }
         ensures data_type { self.new.data_type ≡ self.old.data_type }
-        ensures ok { OnOk result (cells_in self.new ≡ cells_in self.old ++ kept_cells (over_least self.old.data_type) overs.now marks.now) }
+        ensures ok { OnOk result (cells_in self.new ≡ cells_in self.old
+            ++ kept_cells (over_least self.old.data_type) overs.now marks.now) }
         ensures err { OnErr result (cells_in self.new ≡ cells_in self.old) }
     {
         let count = self.heights.len();
@@ -99,7 +101,8 @@ impl Cells {
         requires of_type { IsCellOf self.old.data_type (cell_from (over_least self.old.data_type) over mark) }
         requires unmasked { masks mark ≡ false }
         ensures data_type { self.new.data_type ≡ self.old.data_type }
-        ensures ok { OnOk result (cells_in self.new ≡ cells_in self.old ++ cell_from (over_least self.old.data_type) over mark ∷ []) }
+        ensures ok { OnOk result (cells_in self.new ≡ cells_in self.old
+            ++ cell_from (over_least self.old.data_type) over mark ∷ []) }
         ensures err { OnErr result (cells_in self.new ≡ cells_in self.old) }
     {
         self.heights.push(over)?;

@@ -76,7 +76,8 @@ pub trait Grid: Heights {
         requires { changes self.old < 2 ^ 63 }
         ensures sets { SetsCell (Self.map self.old) at cell result (Self.map self.new) }
         ensures origin { comes_from self.old self.new }
-        ensures count { CountsChange (Self.map self.old) (Self.map self.new) (changes self.old) (changes self.new) };
+        ensures count { CountsChange (Self.map self.old) (Self.map self.new) (changes self.old)
+            (changes self.new) };
 
     /// Sets the heights of a profile, by column, to those for which the numbers of a row stand; where a number stands
     /// for none, the cell stays. The masks stay.
@@ -87,7 +88,8 @@ pub trait Grid: Heights {
         requires count { changes self.old < 2 ^ 63 }
         ensures sets { Self.map self.new ≡ with_heights (Self.map self.old) y (values_of L.code row.now) }
         ensures origin { comes_from self.old self.new }
-        ensures count { CountsChange (Self.map self.old) (Self.map self.new) (changes self.old) (changes self.new) };
+        ensures count { CountsChange (Self.map self.old) (Self.map self.new) (changes self.old)
+            (changes self.new) };
 
     /// Sets the mask at a position; the cell stays. `Outside` comes exactly where the position is
     /// not in the grid.
@@ -95,14 +97,16 @@ pub trait Grid: Heights {
         requires { changes self.old < 2 ^ 63 }
         ensures sets { SetsMask (Self.map self.old) at masked result (Self.map self.new) }
         ensures origin { comes_from self.old self.new }
-        ensures count { CountsChange (Self.map self.old) (Self.map self.new) (changes self.old) (changes self.new) };
+        ensures count { CountsChange (Self.map self.old) (Self.map self.new) (changes self.old)
+            (changes self.new) };
 
     /// Sets which of its points are neighbours, and nothing else.
     fn set_adjacency(&mut self, adjacency: Adjacency)
         requires { changes self.old < 2 ^ 63 }
         ensures sets { Self.map self.new ≡ under adjacency (Self.map self.old) }
         ensures origin { comes_from self.old self.new }
-        ensures count { CountsChange (Self.map self.old) (Self.map self.new) (changes self.old) (changes self.new) };
+        ensures count { CountsChange (Self.map self.old) (Self.map self.new) (changes self.old)
+            (changes self.new) };
 
     /// Each grid comes from itself.
     ghost itself: { (grid : Self) → comes_from grid grid };

@@ -176,7 +176,8 @@ impl Lane for i64 {
 /// The number that stands for a height where one shows, and else the one for none.
 #[inline]
 pub(crate) fn number_of<L: Lane>(shows: bool, height: i64) -> L
-    requires { OnTrue shows ((neg_ℤ (pos L.code.most_height) ≤ℤ height) × (height ≤ℤ pos L.code.most_height)) }
+    requires { OnTrue shows ((neg_ℤ (pos L.code.most_height) ≤ℤ height)
+        × (height ≤ℤ pos L.code.most_height)) }
     ensures { IsPlainHeight L.code (if shows then Some height else None) result }
 {
     if shows {

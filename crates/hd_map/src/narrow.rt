@@ -52,7 +52,14 @@ impl Narrow {
     pub fn new(size: Size, cells: Cells) -> Narrow
         requires limits { IsSize size }
         requires whole { length (cells_in cells) ≡ cell_count size }
-        ensures { narrow_map result ≡ record { size = size; data_type = cells.data_type; cells = cells_in cells; masks = replicate (cell_count size) false; adjacency = Eight } }
+        ensures { narrow_map result ≡ record {
+          size = size;
+          data_type = cells.data_type;
+          cells =
+              cells_in cells;
+          masks = replicate (cell_count size) false;
+          adjacency = Eight;
+        } }
     {
         let Cells {
             data_type,

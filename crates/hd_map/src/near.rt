@@ -28,7 +28,8 @@ pub fn are_beside(adjacency: Adjacency, p: Pos, q: Pos) -> bool
 pub fn neighbours<G: Heights>(alloc: Global, grid: &G, at: Pos) -> SmallVec<Pos, 8>
     requires { InGrid (G.map grid.now).size at }
     ensures all { (q : _) → Contains result.items q ↔ Neighbour (G.map grid.now) at q }
-    ensures ordered { AllPairs (λ a b. place_of (G.map grid.now).size a < place_of (G.map grid.now).size b) result.items }
+    ensures ordered { AllPairs (λ a b. place_of (G.map grid.now).size a
+        < place_of (G.map grid.now).size b) result.items }
     ensures inline { result.capacity ≡ 8 }
 {
     if is_present(grid, at) {
@@ -47,7 +48,8 @@ pub fn neighbours_by<G: Heights>(
 ) -> SmallVec<Pos, 8>
     requires { InGrid (G.map grid.now).size at }
     ensures all { (q : _) → Contains result.items q ↔ Neighbour (under adjacency (G.map grid.now)) at q }
-    ensures ordered { AllPairs (λ a b. place_of (G.map grid.now).size a < place_of (G.map grid.now).size b) result.items }
+    ensures ordered { AllPairs (λ a b. place_of (G.map grid.now).size a
+        < place_of (G.map grid.now).size b) result.items }
     ensures inline { result.capacity ≡ 8 }
 {
     neighbours(alloc, &Under { grid, adjacency }, at)
@@ -57,7 +59,8 @@ pub fn neighbours_by<G: Heights>(
 fn points_round<G: Heights>(alloc: Global, grid: &G, at: Pos) -> SmallVec<Pos, 8>
     requires { Present (G.map grid.now) at }
     ensures all { (q : _) → Contains result.items q ↔ Neighbour (G.map grid.now) at q }
-    ensures ordered { AllPairs (λ a b. place_of (G.map grid.now).size a < place_of (G.map grid.now).size b) result.items }
+    ensures ordered { AllPairs (λ a b. place_of (G.map grid.now).size a
+        < place_of (G.map grid.now).size b) result.items }
     ensures inline { result.capacity ≡ 8 }
 {
     let adjacency = grid.adjacency();
@@ -79,7 +82,8 @@ fn present_at<G: Heights>(grid: &G, at: Pos, x: u32, y: u32) -> Option<Pos>
     requires near { InGrid (G.map grid.now).size at }
     requires x { x ≤ 2 }
     requires y { y ≤ 2 }
-    ensures { MatchOption result ((q : _) → q.x + 1 ≡ at.x + x → q.y + 1 ≡ at.y + y → Present (G.map grid.now) q → ⊥)
+    ensures { MatchOption result ((q : _) → q.x + 1 ≡ at.x + x → q.y + 1 ≡ at.y + y
+        → Present (G.map grid.now) q → ⊥)
         (λ q. (q.x + 1 ≡ at.x + x) × (q.y + 1 ≡ at.y + y) × Present (G.map grid.now) q) }
 {
     let Some(q) = step_from(grid.size(), at, x, y) else {
@@ -95,7 +99,8 @@ pub fn beside_at<G: Heights>(grid: &G, at: Pos, x: u32, y: u32) -> Option<Pos>
     requires at { InGrid (G.map grid.now).size at }
     requires x { x ≤ 2 }
     requires y { y ≤ 2 }
-    ensures { MatchOption result ((q : _) → q.x + 1 ≡ at.x + x → q.y + 1 ≡ at.y + y → InGrid (G.map grid.now).size q → AreBesideUnder (G.map grid.now).adjacency at q → ⊥)
+    ensures { MatchOption result ((q : _) → q.x + 1 ≡ at.x + x → q.y + 1 ≡ at.y + y
+        → InGrid (G.map grid.now).size q → AreBesideUnder (G.map grid.now).adjacency at q → ⊥)
         (λ q. (q.x + 1 ≡ at.x + x) × (q.y + 1 ≡ at.y + y) × InGrid (G.map grid.now).size q × AreBesideUnder (G.map grid.now).adjacency at q) }
 {
     let Some(q) = step_from(grid.size(), at, x, y) else {

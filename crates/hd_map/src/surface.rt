@@ -32,7 +32,14 @@ impl Surface {
     pub fn new(size: Size, cells: Cells) -> Surface
         requires limits { IsSize size }
         requires whole { length (cells_in cells) ≡ cell_count size }
-        ensures { map_of result ≡ record { size = size; data_type = cells.data_type; cells = cells_in cells; masks = replicate (cell_count size) false; adjacency = Eight } }
+        ensures { map_of result ≡ record {
+          size = size;
+          data_type = cells.data_type;
+          cells =
+              cells_in cells;
+          masks = replicate (cell_count size) false;
+          adjacency = Eight;
+        } }
     {
         Surface::Narrow(Narrow::new(size, cells))
     }

@@ -39,7 +39,14 @@ impl Wide {
     pub fn new(size: Size, cells: WideCells) -> Wide
         requires limits { IsSize size }
         requires whole { length (wide_cells_in cells) ≡ cell_count size }
-        ensures { wide_map result ≡ record { size = size; data_type = cells.data_type; cells = wide_cells_in cells; masks = replicate (cell_count size) false; adjacency = Eight } }
+        ensures { wide_map result ≡ record {
+          size = size;
+          data_type = cells.data_type;
+          cells =
+              wide_cells_in cells;
+          masks = replicate (cell_count size) false;
+          adjacency = Eight;
+        } }
     {
         let WideCells {
             data_type,
@@ -196,7 +203,8 @@ impl Grid for Wide {
 #[inline]
 fn height_in(heights: &[i64], index: usize, mark: Mark) -> Option<i64>
     requires { index < length heights.now }
-    ensures { result ≡ shown_height (cell_from as_it_is (slice_index_or heights.now index (pos 0)) mark) (masks mark) }
+    ensures { result ≡ shown_height (cell_from as_it_is
+        (slice_index_or heights.now index (pos 0)) mark) (masks mark) }
 {
     match mark {
         Mark::Shown => Some(heights[index]),

@@ -77,7 +77,8 @@ impl WideCells {
         requires of_type { IsCellOf self.old.data_type (cell_from as_it_is height mark) }
         requires unmasked { masks mark ≡ false }
         ensures data_type { self.new.data_type ≡ self.old.data_type }
-        ensures ok { OnOk result (wide_cells_in self.new ≡ wide_cells_in self.old ++ cell_from as_it_is height mark ∷ []) }
+        ensures ok { OnOk result (wide_cells_in self.new ≡ wide_cells_in self.old
+            ++ cell_from as_it_is height mark ∷ []) }
         ensures err { OnErr result (wide_cells_in self.new ≡ wide_cells_in self.old) }
     {
         self.heights.push(height)?;

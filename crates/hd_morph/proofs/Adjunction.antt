@@ -85,7 +85,8 @@ HaveSamePoints-dilation s e f d o raised = record {
 pub HaveSamePoints-erosion : (s : Size) (e : ElementTable) (f w : Relief) → HasOrigin e → IsErosion s e f w → HaveSamePoints s f w
 HaveSamePoints-erosion s e f w o lowered = record {
   there = λ p inside z is_z.
-      let low = (lowered.present p inside z is_z).reached (z -ℤ o.number) (record { to = p; height = z; number = o.number; links = Links-centre s e o p inside; is_height = is_z; difference = refl }) in
+      let low = (lowered.present p inside z is_z).reached (z -ℤ o.number) (record
+      { to = p; height = z; number = o.number; links = Links-centre s e o p inside; is_height = is_z; difference = refl }) in
       (low.0, low.1);
   back = λ p inside z is_z. elim (Option-some_or_none (f p)) [
     | inl some ↦ some

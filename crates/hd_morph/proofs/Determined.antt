@@ -75,7 +75,8 @@ IsFiltered-unique Closing s e f g h one other =
     erosion_same s e one.between g h one.second (erosion_of_same s e other.between one.between h same other.second)
 
 -- lists of cells that agree at each position are one
-same_cells : (s : Size) (a b : List Cell) → 1 ≤ s.points → length a ≡ cell_count s → length b ≡ cell_count s → ((p : Pos) → InGrid s p → get_or a (place_of s p) Bad ≡ get_or b (place_of s p) Bad) → a ≡ b
+same_cells : (s : Size) (a b : List Cell) → 1 ≤ s.points → length a ≡ cell_count s → length b ≡ cell_count s
+    → ((p : Pos) → InGrid s p → get_or a (place_of s p) Bad ≡ get_or b (place_of s p) Bad) → a ≡ b
 same_cells s a b some whole whole' same = ext_get_or Bad a b (whole ∙ sym whole') (λ k below.
     let place : place_of s (position_at s k) ≡ k = position_at-place s k some in
     rw place at (same (position_at s k) (position_at-inside s k some (omega arith))))

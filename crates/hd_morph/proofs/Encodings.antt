@@ -33,4 +33,10 @@ module _ {L : Type 0} (code : Encoding L) where
 
   -- the heights of a list of which a stretch was written anew
   pub values_of-mid : (a k : ℕ) (xs ys : List L) → values_of code (put_mid a k xs ys) ≡ put_mid a k (values_of code xs) (values_of code ys)
-  values_of-mid a k xs ys = rw (map-append code.shown (take a xs) (ys ++ drop k (drop a xs)), map-append code.shown ys (drop k (drop a xs)), take-map code.shown a xs, drop-map code.shown a xs, drop-map code.shown k (drop a xs))
+  values_of-mid a k xs ys = rw (
+    map-append code.shown (take a xs) (ys ++ drop k (drop a xs)),
+    map-append code.shown ys (drop k (drop a xs)),
+    take-map code.shown a xs,
+    drop-map code.shown a xs,
+    drop-map code.shown k (drop a xs),
+  )

@@ -20,7 +20,8 @@ use Rattle.hd_morph.proofs.Settling.{ArePlainlyFiltered-topped}
 use Rattle.hd_morph.proofs.Turned.{opposite, turned_table-number}
 
 -- the heights round a position are those that the element leads from
-round_raised : (s : Size) (e : ElementTable) (across down : ℕ) (n : ℤ) (f : List (Option ℤ)) (p : Pos) (z : ℤ) → IsFlat e across down n → InGrid s p → IsRound s across down f p z → IsRaised s e (relief s f) p (z +ℤ n)
+round_raised : (s : Size) (e : ElementTable) (across down : ℕ) (n : ℤ) (f : List (Option ℤ)) (p : Pos) (z : ℤ) → IsFlat e across down n → InGrid s p → IsRound s across down f p z
+    → IsRaised s e (relief s f) p (z +ℤ n)
 round_raised s e across down n f p z flat inside a =
     let u : Pos = record { x = p.x + across - a.at.x; y = p.y + down - a.at.y } in
     let column : u.x < e.width = omega (arith, flat.columns, a.columns.not_after, a.columns.not_before) in
@@ -40,7 +41,8 @@ round_raised s e across down n f p z flat inside a =
       sum = refl;
     }
 
-raised_round : (s : Size) (e : ElementTable) (across down : ℕ) (n : ℤ) (f : List (Option ℤ)) (p : Pos) (z : ℤ) → IsFlat e across down n → IsRaised s e (relief s f) p z → IsRound s across down f p (z -ℤ n)
+raised_round : (s : Size) (e : ElementTable) (across down : ℕ) (n : ℤ) (f : List (Option ℤ)) (p : Pos) (z : ℤ) → IsFlat e across down n → IsRaised s e (relief s f) p z
+    → IsRound s across down f p (z -ℤ n)
 raised_round s e across down n f p z flat r =
     let o = r.links.is_offset in
     let number : number_at e r.links.offset ≡ Some n = flat.each r.links.offset o.column o.row in
@@ -72,7 +74,8 @@ raised_greatest P Q n (Some x) up down was = record {
 
 module _ {L : Type 0} (code : Encoding L) where
   -- a position with a height has a height round it, and so a top
-  pub AreTopped-round : (s : Size) (across down : ℕ) (f : List L) (tops : List (Option ℤ)) → 1 ≤ s.points → ArePlain code s (most_between code) f → AreRoundGreatests s across down (values_of code f) tops
+  pub AreTopped-round : (s : Size) (across down : ℕ) (f : List L) (tops : List (Option ℤ)) → 1 ≤ s.points → ArePlain code s (most_between code) f
+      → AreRoundGreatests s across down (values_of code f) tops
       → AreTopped (most_filtered code) (values_of code f) tops
   AreTopped-round s across down f tops some plain round = record {
     whole = round.whole;
@@ -80,7 +83,14 @@ module _ {L : Type 0} (code : Encoding L) where
         let p : Pos = position_at s k in
         let place : place_of s p ≡ k = position_at-place s k some in
         let inside : InGrid s p = position_at-inside s k some (omega (arith, value_at-inside (values_of code f) k z is, values_of-length code f, plain.whole)) in
-        let itself : IsRound s across down (values_of code f) p z = record { at = p; inside = inside; columns = record { not_after = omega arith; not_before = omega arith }; rows = record { not_after = omega arith; not_before = omega arith }; is = rw place is } in
+        let itself : IsRound s across down (values_of code f) p z = record {
+          at = p;
+          inside = inside;
+          columns = record { not_after = omega arith; not_before = omega arith };
+          rows =
+              record { not_after = omega arith; not_before = omega arith };
+          is = rw place is;
+        } in
         let top = (round.each p inside).reached z itself in
         let from = (round.each p inside).attained top.0 top.1 in
         let within = IsBounded-value code s (most_between code) f plain (place_of s from.at) in

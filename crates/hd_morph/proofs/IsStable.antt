@@ -48,7 +48,9 @@ stable_of filter m e cells points itself once = record {
 }
 
 pub IsStable-opening : IsStable Opening
-IsStable-opening m e cells is once = stable_of Opening m e cells (λ f g was. HaveSamePoints-opening m.size e f g (HasOrigin-element e is) was) (λ f g was. IsOpening-of_itself m.size e f g (HasOrigin-element e is) was) once
+IsStable-opening m e cells is once = stable_of Opening m e cells (λ f g was. HaveSamePoints-opening m.size e f g (HasOrigin-element e is) was)
+    (λ f g was. IsOpening-of_itself m.size e f g (HasOrigin-element e is) was) once
 
 pub IsStable-closing : IsStable Closing
-IsStable-closing m e cells is once = stable_of Closing m e cells (λ f g was. HaveSamePoints-closing m.size e f g (HasOrigin-element e is) was) (λ f g was. IsClosing-of_itself m.size e f g (HasOrigin-element e is) was) once
+IsStable-closing m e cells is once = stable_of Closing m e cells (λ f g was. HaveSamePoints-closing m.size e f g (HasOrigin-element e is) was)
+    (λ f g was. IsClosing-of_itself m.size e f g (HasOrigin-element e is) was) once

@@ -114,13 +114,16 @@ pub CellsBefore-none : (m : Map) (heights : List (Option ℤ)) (at : Pos) (cells
 CellsBefore-none m heights at cells x y some empty = record { column = omega arith; place = rw (y, x) (omega arith); are = empty }
 
 pub CellsBefore-more : (m : Map) (heights : List (Option ℤ)) (index : ℕ) (at next : Pos) (cells cells' : List Cell)
-    → next.x < m.size.points → place_of m.size next ≡ place_of m.size at + 1 → cells' ≡ cells ++ cell_with (slice_index_or heights index None) (cell_at m at) ∷ [] → CellsBefore m heights index at cells → CellsBefore m heights (index + 1) next cells'
+    → next.x < m.size.points → place_of m.size next ≡ place_of m.size at + 1 → cells' ≡ cells ++ cell_with (slice_index_or heights index None) (cell_at m at) ∷ []
+    → CellsBefore m heights index at cells → CellsBefore m heights (index + 1) next cells'
 CellsBefore-more m heights index at next cells cells' column onward pushed was = record {
   column = column;
   place = omega (arith, was.place);
   are =
-      let same : cell_with (slice_index_or heights index None) (cell_at m at) ≡ cell_after m heights index = ap (λ k. cell_with (slice_index_or heights index None) (slice_index_or m.cells k Bad)) was.place in
-      pushed ∙ ap (λ (c : Cell). cells ++ c ∷ []) same ∙ ap (λ (cs : List Cell). cs ++ cell_after m heights index ∷ []) was.are ∙ sym (map-range_with_len_more (cell_after m heights) 0 index index (omega arith));
+      let same : cell_with (slice_index_or heights index None) (cell_at m at) ≡ cell_after m heights index = ap
+      (λ k. cell_with (slice_index_or heights index None) (slice_index_or m.cells k Bad)) was.place in
+      pushed ∙ ap (λ (c : Cell). cells ++ c ∷ []) same ∙ ap (λ (cs : List Cell). cs ++ cell_after m heights index ∷ []) was.are
+      ∙ sym (map-range_with_len_more (cell_after m heights) 0 index index (omega arith));
 }
 
 -- a new height or an old cell of the type

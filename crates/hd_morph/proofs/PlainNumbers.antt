@@ -1,5 +1,6 @@
 -- Heights by index, and plain numbers that stand for them.
-use Rattle.std.proofs.Common.{◌≡◌, ◌<◌, ◌≤◌, ◌+◌, ◌++◌, ℕ, ℤ, List, length, take, drop, get_or, slice_index_or, slice_set, length-set, get_or-set_other, get_or-set_same, below_more, Option, Some, None, ◌⊎◌, inl, inr, refl, ap, subst, sym, ◌∙◌, arith, rules}
+use Rattle.std.proofs.Common.{◌≡◌, ◌<◌, ◌≤◌, ◌+◌, ◌++◌, ℕ, ℤ, List, length, take, drop, get_or, slice_index_or, slice_set, length-set, get_or-set_other}
+use Rattle.std.proofs.Common.{get_or-set_same, below_more, Option, Some, None, ◌⊎◌, inl, inr, refl, ap, subst, sym, ◌∙◌, arith, rules}
 use Rattle.std.proofs.lemmas.Bool.{cases_lt}
 use Rattle.std.proofs.lemmas.List.{places, get_or_past}
 use Rattle.std.proofs.Math.Seq.{take-append_seam}
@@ -148,7 +149,8 @@ module _ {L : Type 0} (code : Encoding L) where
   IsBounded-relief s n numbers are p inside = IsBounded-value s n numbers are (place_of s p)
 
   -- a number that is read inside a plain list is plain, within more
-  pub IsPlainNumber-read : (m n : ℕ) → m ≤ n → (numbers : List L) → ((k : ℕ) → IsPlainNumber code m (number_in code numbers k)) → (k : ℕ) (x : L) → k < length numbers → x ≡ get_or numbers k x → IsPlainNumber code n x
+  pub IsPlainNumber-read : (m n : ℕ) → m ≤ n → (numbers : List L) → ((k : ℕ) → IsPlainNumber code m (number_in code numbers k)) → (k : ℕ) (x : L) → k < length numbers
+      → x ≡ get_or numbers k x → IsPlainNumber code n x
   IsPlainNumber-read m n more numbers each k x inside read =
       let here : x ≡ number_in code numbers k = number_in-read code numbers k x inside read in
       rw here (IsPlainNumber-more code m n (number_in code numbers k) more (each k))

@@ -10,7 +10,8 @@ use Rattle.hd_morph.specs.Plain.{IsBetween}
 use Rattle.hd_morph.specs.Raised.{plus}
 
 -- whether a number is from a least to a greatest one, by limits that are right for heights
-pub IsBetween-tested : (floor z least greatest low high : ℤ) (shown : Bool) → shown ≡ is_some (shown_over floor z) → (floor <ℤ z → (low ≤ℤ z) ↔ (least ≤ℤ z)) → (floor <ℤ z → (z ≤ℤ high) ↔ (z ≤ℤ greatest))
+pub IsBetween-tested : (floor z least greatest low high : ℤ) (shown : Bool) → shown ≡ is_some (shown_over floor z) → (floor <ℤ z → (low ≤ℤ z) ↔ (least ≤ℤ z))
+    → (floor <ℤ z → (z ≤ℤ high) ↔ (z ≤ℤ greatest))
     → IsTrue (not shown || (int_le low z && int_le z high)) ↔ IsBetween least greatest (shown_over floor z)
 IsBetween-tested floor z least greatest low high shown is from to = by_lt_z floor z
     (λ above.

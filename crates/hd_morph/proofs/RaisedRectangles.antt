@@ -48,7 +48,8 @@ module _ {L : Type 0} (code : Encoding L) (s : Size) (from to : Pos) (number : �
   }
 
   -- the stretch of a row
-  module _ (y a k : ℕ) (now : List L) (first : a ≡ y * s.points + from.x) (last : a + k ≡ y * s.points + (to.x + 1)) (corner : InGrid s to) (columns : from.x ≤ to.x) (after : from.y ≤ y) (before : y ≤ to.y) (long : length old ≡ cell_count s) (was : RaisedBefore y now) where
+  module _ (y a k : ℕ) (now : List L) (first : a ≡ y * s.points + from.x) (last : a + k ≡ y * s.points + (to.x + 1)) (corner : InGrid s to) (columns : from.x ≤ to.x)
+      (after : from.y ≤ y) (before : y ≤ to.y) (long : length old ≡ cell_count s) (was : RaisedBefore y now) where
     room : a + k ≤ length old
     room = omega (arith, last, long, mul-le-mul_right s.points corner.profile, mul-le-mul_right s.points before, corner.column)
 
@@ -68,7 +69,8 @@ module _ {L : Type 0} (code : Encoding L) (s : Size) (from to : Pos) (number : �
     -- a top stands where a height does
     pub AreTopped-row : ArePlain code s code.most_height old → AreTopped (most_filtered code) (values_of code (take k (drop a old))) (values_of code (take k (drop a now)))
     AreTopped-row plain = record {
-      whole = values_of-length code (take k (drop a now)) ∙ take_drop-length a k now (omega (arith, room, was.whole)) ∙ sym (values_of-length code (take k (drop a old)) ∙ take_drop-length a k old room);
+      whole = values_of-length code (take k (drop a now)) ∙ take_drop-length a k now (omega (arith, room, was.whole))
+          ∙ sym (values_of-length code (take k (drop a old)) ∙ take_drop-length a k old room);
       each = λ i z is.
           let below : i < k = omega (arith, value_at-inside (values_of code (take k (drop a old))) i z is, values_of-length code (take k (drop a old)), take_drop-length a k old room) in
           let height : value_at (values_of code old) (a + i) ≡ Some z = sym (value_old i below) ∙ is in
@@ -153,7 +155,8 @@ module _ {L : Type 0} (code : Encoding L) (m : Map) (from to : Pos) (number : �
   }
 
   -- a raised number is plain, within more
-  number_plain : (v : Option ℤ) (n : L) → neg_ℤ (pos code.most_number) ≤ℤ number → number ≤ℤ pos code.most_number → IsBounded code.most_height v → IsSettled code v v number n → IsPlainNumber code (most_filtered code) n
+  number_plain : (v : Option ℤ) (n : L) → neg_ℤ (pos code.most_number) ≤ℤ number → number ≤ℤ pos code.most_number → IsBounded code.most_height v → IsSettled code v v number n
+      → IsPlainNumber code (most_filtered code) n
   number_plain (Some h) n least greatest within is =
       let there : code.shown n ≡ Some (h +ℤ number) = is.present h refl in
       let low = within.least h refl in
@@ -167,7 +170,8 @@ module _ {L : Type 0} (code : Encoding L) (m : Map) (from to : Pos) (number : �
       }
   number_plain None n least greatest within is = rw (is.absent refl) (IsPlainNumber-missing code (most_filtered code))
 
-  pub ArePlain-raised : 1 ≤ m.size.points → neg_ℤ (pos code.most_number) ≤ℤ number → number ≤ℤ pos code.most_number → ArePlain code m.size code.most_height old → ArePlain code m.size (most_filtered code) new
+  pub ArePlain-raised : 1 ≤ m.size.points → neg_ℤ (pos code.most_number) ≤ℤ number → number ≤ℤ pos code.most_number → ArePlain code m.size code.most_height old
+      → ArePlain code m.size (most_filtered code) new
   ArePlain-raised some least greatest plain = record {
     whole = raised.whole ∙ plain.whole;
     plain = record {
@@ -179,7 +183,8 @@ module _ {L : Type 0} (code : Encoding L) (m : Map) (from to : Pos) (number : �
             let value = IsBounded-value code m.size code.most_height old plain (place_of m.size p) in
             let here : IsPlainNumber code (most_filtered code) (number_in code new (place_of m.size p)) = elim (within_or_not from to p) [
               | inl within ↦ number_plain (value_at (values_of code old) (place_of m.size p)) (number_in code new (place_of m.size p)) least greatest value (raised.within p inside within)
-              | inr out ↦ rw (raised.others p inside out) (IsPlainNumber-more code code.most_height (most_filtered code) (number_in code old (place_of m.size p)) (omega arith) (plain.plain.each (place_of m.size p)))
+              | inr out ↦ rw (raised.others p inside out) (IsPlainNumber-more code code.most_height (most_filtered code) (number_in code old (place_of m.size p)) (omega arith)
+                  (plain.plain.each (place_of m.size p)))
             ] in
             rw place at here
         | inr past ↦ rw (get_or_past new k code.missing (omega (arith, past, raised.whole, plain.whole))) (IsPlainNumber-missing code (most_filtered code))

@@ -1,5 +1,6 @@
 -- The greatest of the raised heights, offset by offset.
-use Rattle.std.proofs.Common.{◌≡◌, ◌<◌, ◌≤◌, ◌+◌, ◌-◌, ◌*◌, ◌/◌, ◌+ℤ◌, ℕ, ℤ, pos, List, length, take, drop, slice_set, length-set, get_or-set_same, get_or-set_other, below_more, Option, Some, None, inl, inr, refl, ap, subst, sym, ◌∙◌, arith}
+use Rattle.std.proofs.Common.{◌≡◌, ◌<◌, ◌≤◌, ◌+◌, ◌-◌, ◌*◌, ◌/◌, ◌+ℤ◌, ℕ, ℤ, pos, List, length, take, drop, slice_set, length-set, get_or-set_same}
+use Rattle.std.proofs.Common.{get_or-set_other, below_more, Option, Some, None, inl, inr, refl, ap, subst, sym, ◌∙◌, arith}
 use Rattle.std.proofs.lemmas.Int.{ints}
 use Rattle.std.proofs.lemmas.Bool.{cases_lt}
 use Rattle.std.proofs.lemmas.Nat.{mul-add-lt, same_from_place}
@@ -49,11 +50,19 @@ RaisedBefore-more heights from number to step old now new room is was =
       above = λ k past. get_or-set_other now at k new None (omega arith) ∙ was.above k (omega arith);
     }
 
-pub AreRaisedTo-all : (heights : List (Option ℤ)) (from : ℕ) (number : ℤ) (to step count : ℕ) (old now : List (Option ℤ)) → step ≡ count → RaisedBefore heights from number to step old now → AreRaisedTo heights from count number to old now
-AreRaisedTo-all heights from number to step count old now all was = record { whole = was.whole; inside = λ k less. was.inside k (omega arith); below = was.below; above = λ k past. was.above k (omega arith) }
+pub AreRaisedTo-all : (heights : List (Option ℤ)) (from : ℕ) (number : ℤ) (to step count : ℕ) (old now : List (Option ℤ)) → step ≡ count
+    → RaisedBefore heights from number to step old now → AreRaisedTo heights from count number to old now
+AreRaisedTo-all heights from number to step count old now all was = record {
+  whole = was.whole;
+  inside = λ k less. was.inside k (omega arith);
+  below = was.below;
+  above =
+      λ k past. was.above k (omega arith);
+}
 
 -- a stretch of a row is the part that an offset leads to
-pub AreRaisedAcross-stretch : (heights : List (Option ℤ)) (reach column ahead behind count : ℕ) (number : ℤ) (old new : List (Option ℤ)) → length heights ≡ length old → ahead ≡ reach - column → behind ≡ column - reach
+pub AreRaisedAcross-stretch : (heights : List (Option ℤ)) (reach column ahead behind count : ℕ) (number : ℤ) (old new : List (Option ℤ)) → length heights ≡ length old
+    → ahead ≡ reach - column → behind ≡ column - reach
     → ahead + behind < length heights → count ≡ length heights - ahead - behind → AreRaisedTo heights ahead count number behind old new → AreRaisedAcross heights reach column number old new
 AreRaisedAcross-stretch heights reach column ahead behind count number old new whole ahead_is behind_is room count_is was = record {
   whole = was.whole;
@@ -73,7 +82,8 @@ AreRaisedAcross-stretch heights reach column ahead behind count number old new w
 }
 
 -- where nothing overlaps, nothing is reached
-pub AreRaisedAcross-nowhere : (heights : List (Option ℤ)) (reach column ahead behind : ℕ) (number : ℤ) (old : List (Option ℤ)) → length heights ≡ length old → ahead ≡ reach - column → behind ≡ column - reach
+pub AreRaisedAcross-nowhere : (heights : List (Option ℤ)) (reach column ahead behind : ℕ) (number : ℤ) (old : List (Option ℤ)) → length heights ≡ length old
+    → ahead ≡ reach - column → behind ≡ column - reach
     → length heights ≤ ahead + behind → AreRaisedAcross heights reach column number old old
 AreRaisedAcross-nowhere heights reach column ahead behind number old whole ahead_is behind_is room = record {
   whole = refl;
@@ -147,11 +157,14 @@ pub IsRowRaisedOnce-kept : (s : Size) (e : ElementTable) (f : Relief) (y : ℕ) 
 IsRowRaisedOnce-kept s e f y offset old none = record { whole = refl; each = λ x inside. record { raised = None; greatest = none x inside; is = sym (larger-none (value_at old x)) } }
 
 -- no row of the grid leads to this one
-pub IsRowRaisedOnce-no_row : (s : Size) (e : ElementTable) (f : Relief) (y : ℕ) (offset : Pos) (old : List (Option ℤ)) → ((from : ℕ) → from < s.profiles → from + offset.y ≡ y + e.height / 2 → ⊥) → IsRowRaisedOnce s e f y offset old old
-IsRowRaisedOnce-no_row s e f y offset old none = IsRowRaisedOnce-kept s e f y offset old (λ x inside. IsRaisedBy-no_position s e f (record { x = x; y = y }) offset (λ from within leads. none from.y within.profile leads.down))
+pub IsRowRaisedOnce-no_row : (s : Size) (e : ElementTable) (f : Relief) (y : ℕ) (offset : Pos) (old : List (Option ℤ))
+    → ((from : ℕ) → from < s.profiles → from + offset.y ≡ y + e.height / 2 → ⊥) → IsRowRaisedOnce s e f y offset old old
+IsRowRaisedOnce-no_row s e f y offset old none = IsRowRaisedOnce-kept s e f y offset old
+    (λ x inside. IsRaisedBy-no_position s e f (record { x = x; y = y }) offset (λ from within leads. none from.y within.profile leads.down))
 
 -- a row of heights, raised across, raises a row once
-pub IsRowRaisedOnce-across : (s : Size) (e : ElementTable) (heights : List (Option ℤ)) (y row start : ℕ) (offset : Pos) (number : ℤ) (old new : List (Option ℤ)) → length heights ≡ cell_count s → length old ≡ s.points → y < s.profiles
+pub IsRowRaisedOnce-across : (s : Size) (e : ElementTable) (heights : List (Option ℤ)) (y row start : ℕ) (offset : Pos) (number : ℤ) (old new : List (Option ℤ))
+    → length heights ≡ cell_count s → length old ≡ s.points → y < s.profiles
     → row < s.profiles → row + offset.y ≡ y + e.height / 2 → offset.x < e.width → offset.y < e.height → number_at e offset ≡ Some number → start ≡ row * s.points
     → AreRaisedAcross (take s.points (drop start heights)) (e.width / 2) offset.x number old new → IsRowRaisedOnce s e (relief s heights) y offset old new
 IsRowRaisedOnce-across s e heights y row start offset number old new whole width within row_within leads column table_row is_number start_is was =
@@ -173,7 +186,8 @@ IsRowRaisedOnce-across s e heights y row start offset number old new whole width
               | inl there ↦
                   let q : Pos = record { x = x + e.width / 2 - offset.x; y = row } in
                   let o : IsOffset e offset q p = record { column = column; row = table_row; across = omega arith; down = leads } in
-                  let value : value_at (take s.points (drop start heights)) q.x ≡ relief s heights q = take_drop-at None start s.points q.x heights there ∙ ap (λ k. value_at heights (k + q.x)) start_is in
+                  let value : value_at (take s.points (drop start heights)) q.x ≡ relief s heights q = take_drop-at None start s.points q.x heights there
+                  ∙ ap (λ k. value_at heights (k + q.x)) start_is in
                   record {
                     raised = plus number (relief s heights q);
                     greatest = IsRaisedBy-one_offset s e (relief s heights) p offset q number (record { column = there; profile = row_within }) p_inside o is_number;
@@ -181,7 +195,8 @@ IsRowRaisedOnce-across s e heights y row start offset number old new whole width
                   }
               | inr past ↦ record {
                 raised = None;
-                greatest = IsRaisedBy-no_position s e (relief s heights) p offset (λ from from_inside o. let across : from.x + offset.x ≡ x + e.width / 2 = o.across in let less : from.x < s.points = from_inside.column in omega arith);
+                greatest = IsRaisedBy-no_position s e (relief s heights) p offset
+                    (λ from from_inside o. let across : from.x + offset.x ≡ x + e.width / 2 = o.across in let less : from.x < s.points = from_inside.column in omega arith);
                 is = was.others x (λ from less e'. omega (arith, size)) ∙ sym (larger-none (value_at old x));
               }
             ]
@@ -207,7 +222,8 @@ RowRaisedBefore-more s e f y index offset old new column place was once = record
   each = λ x inside.
       let p : Pos = record { x = x; y = y } in
       let one = once.each x inside in
-      rw one.is (IsGreatest-join (IsRaisedBy s e f p (λ u. place_in e u < index)) (IsRaisedBy s e f p (λ u. u ≡ offset)) (IsRaisedBy s e f p (λ u. place_in e u < index + 1)) (value_at old x) one.raised
+      rw one.is (IsGreatest-join (IsRaisedBy s e f p (λ u. place_in e u < index)) (IsRaisedBy s e f p (λ u. u ≡ offset)) (IsRaisedBy s e f p (λ u. place_in e u < index + 1))
+      (value_at old x) one.raised
       (λ z r. record { is_raised = r.is_raised; chosen = omega (arith, r.chosen) })
       (λ z r. record { is_raised = r.is_raised; chosen = (let here : place_in e r.is_raised.links.offset ≡ place_in e offset = ap (place_in e) r.chosen in omega arith) })
       (λ z r. elim (cases_lt (place_in e r.is_raised.links.offset) index) [
@@ -240,7 +256,8 @@ pub RowsRaised-none : (s : Size) (e : ElementTable) (f : Relief) (tops : List (O
 RowsRaised-none s e f tops blank = record { whole = blank.whole; done = λ p inside less. absurd (omega arith); left = λ k past. blank.each k }
 
 -- the next row stands for no height
-pub RowsRaised-blank : (s : Size) (e : ElementTable) (f : Relief) (y k : ℕ) (tops : List (Option ℤ)) → y < s.profiles → k ≡ s.points → RowsRaised s e f y tops → IsBlankRow s (take k (drop (y * s.points) tops))
+pub RowsRaised-blank : (s : Size) (e : ElementTable) (f : Relief) (y k : ℕ) (tops : List (Option ℤ)) → y < s.profiles → k ≡ s.points → RowsRaised s e f y tops
+    → IsBlankRow s (take k (drop (y * s.points) tops))
 RowsRaised-blank s e f y k tops row width was =
     let last : (y + 1) * s.points ≤ s.profiles * s.points = mul-le-mul_right s.points (let h : y + 1 ≤ s.profiles = omega arith in h) in
     let size : length (take k (drop (y * s.points) tops)) ≡ k = take_drop-length (y * s.points) k tops (omega (arith, was.whole, last)) in
@@ -290,7 +307,8 @@ plus_zero None = refl
 
 module _ {L : Type 0} (code : Encoding L) where
   -- a present point is raised at least from itself
-  pub AreTopped-raised : (s : Size) (e : ElementTable) (heights : List L) (tops : List (Option ℤ)) → 1 ≤ s.points → IsElement e → HasNumbersWithin code.most_number e → ArePlain code s (most_between code) heights
+  pub AreTopped-raised : (s : Size) (e : ElementTable) (heights : List L) (tops : List (Option ℤ)) → 1 ≤ s.points → IsElement e → HasNumbersWithin code.most_number e
+      → ArePlain code s (most_between code) heights
       → AreRaised s e (relief s (values_of code heights)) tops → AreTopped (most_filtered code) (values_of code heights) tops
   AreTopped-raised s e heights tops some is numbers plain raised = record {
     whole = raised.whole ∙ sym plain.whole ∙ sym (values_of-length code heights);
@@ -313,7 +331,8 @@ module _ {L : Type 0} (code : Encoding L) where
   }
 
   -- raised tops, settled, are the dilation
-  pub ArePlainlyFiltered-settled : (s : Size) (e : ElementTable) (heights : List L) (tops : List (Option ℤ)) (new : List L) → 1 ≤ s.points → IsElement e → HasNumbersWithin code.most_number e → ArePlain code s (most_between code) heights
+  pub ArePlainlyFiltered-settled : (s : Size) (e : ElementTable) (heights : List L) (tops : List (Option ℤ)) (new : List L) → 1 ≤ s.points → IsElement e
+      → HasNumbersWithin code.most_number e → ArePlain code s (most_between code) heights
       → AreRaised s e (relief s (values_of code heights)) tops → AreSettled code (values_of code heights) tops (pos 0) new → ArePlainlyFiltered code Dilation s e heights new
   ArePlainlyFiltered-settled s e heights tops new some is numbers plain raised settled =
       ArePlainlyFiltered-topped code s e heights tops new (pos 0) plain.whole (AreTopped-raised s e heights tops some is numbers plain raised) settled

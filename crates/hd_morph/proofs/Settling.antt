@@ -27,7 +27,8 @@ module _ {L : Type 0} (code : Encoding L) where
       → ArePlainlyFiltered code Dilation s e heights new
   ArePlainlyFiltered-topped s e heights tops new number whole topped settled fits =
       let size : length tops ≡ cell_count s = topped.whole ∙ values_of-length code heights ∙ whole in
-      let settled_at : (k : ℕ) → k < cell_count s → IsSettled code (value_at (values_of code heights) k) (value_at tops k) number (number_in code new k) = λ k below. settled.each k (omega (arith, size)) in
+      let settled_at : (k : ℕ) → k < cell_count s → IsSettled code (value_at (values_of code heights) k) (value_at tops k) number (number_in code new k) = λ k below. settled.each k
+      (omega (arith, size)) in
       record {
         whole = settled.whole ∙ size;
         filtered = record {
@@ -74,7 +75,8 @@ module _ {L : Type 0} (code : Encoding L) where
   }
 
 -- a dilation of bounded heights by bounded numbers is bounded
-pub IsBounded-dilation : (s : Size) (e : ElementTable) (m n : ℕ) (f g : Relief) → HasNumbersWithin n e → ((p : Pos) → InGrid s p → IsBounded m (f p)) → IsDilation s e f g → (p : Pos) → InGrid s p → IsBounded (m + n) (g p)
+pub IsBounded-dilation : (s : Size) (e : ElementTable) (m n : ℕ) (f g : Relief) → HasNumbersWithin n e → ((p : Pos) → InGrid s p → IsBounded m (f p)) → IsDilation s e f g
+    → (p : Pos) → InGrid s p → IsBounded (m + n) (g p)
 IsBounded-dilation s e m n f g numbers within raised p inside = record {
   least = λ z there.
       let r = found z there in
@@ -96,7 +98,8 @@ IsBounded-dilation s e m n f g numbers within raised p inside = record {
   ]
 
 -- an erosion of bounded heights by bounded numbers is bounded
-pub IsBounded-erosion : (s : Size) (e : ElementTable) (m n : ℕ) (f g : Relief) → HasNumbersWithin n e → ((p : Pos) → InGrid s p → IsBounded m (f p)) → IsErosion s e f g → (p : Pos) → InGrid s p → IsBounded (m + n) (g p)
+pub IsBounded-erosion : (s : Size) (e : ElementTable) (m n : ℕ) (f g : Relief) → HasNumbersWithin n e → ((p : Pos) → InGrid s p → IsBounded m (f p)) → IsErosion s e f g → (p : Pos)
+    → InGrid s p → IsBounded (m + n) (g p)
 IsBounded-erosion s e m n f g numbers within lowered p inside = record {
   least = λ z there.
       let r = found z there in
@@ -119,17 +122,22 @@ IsBounded-erosion s e m n f g numbers within lowered p inside = record {
 
 module _ {L : Type 0} (code : Encoding L) where
   -- what was dilated is plain, within more
-  pub ArePlain-dilated : (s : Size) (e : ElementTable) (m n : ℕ) (old new : List L) → 1 ≤ s.points → HasNumbersWithin n e → ArePlain code s m old → ArePlainlyFiltered code Dilation s e old new → ArePlain code s (m + n) new
+  pub ArePlain-dilated : (s : Size) (e : ElementTable) (m n : ℕ) (old new : List L) → 1 ≤ s.points → HasNumbersWithin n e → ArePlain code s m old
+      → ArePlainlyFiltered code Dilation s e old new → ArePlain code s (m + n) new
   ArePlain-dilated s e m n old new some numbers plain made =
-      ArePlain-bounded code Dilation s e (m + n) old new some made (IsBounded-dilation s e m n (relief s (values_of code old)) (relief s (values_of code new)) numbers (IsBounded-relief code s m old plain) made.filtered)
+      ArePlain-bounded code Dilation s e (m + n) old new some made (IsBounded-dilation s e m n (relief s (values_of code old)) (relief s (values_of code new)) numbers
+      (IsBounded-relief code s m old plain) made.filtered)
 
   -- and so is what was eroded
-  pub ArePlain-eroded : (s : Size) (e : ElementTable) (m n : ℕ) (old new : List L) → 1 ≤ s.points → HasNumbersWithin n e → ArePlain code s m old → ArePlainlyFiltered code Erosion s e old new → ArePlain code s (m + n) new
+  pub ArePlain-eroded : (s : Size) (e : ElementTable) (m n : ℕ) (old new : List L) → 1 ≤ s.points → HasNumbersWithin n e → ArePlain code s m old
+      → ArePlainlyFiltered code Erosion s e old new → ArePlain code s (m + n) new
   ArePlain-eroded s e m n old new some numbers plain made =
-      ArePlain-bounded code Erosion s e (m + n) old new some made (IsBounded-erosion s e m n (relief s (values_of code old)) (relief s (values_of code new)) numbers (IsBounded-relief code s m old plain) made.filtered)
+      ArePlain-bounded code Erosion s e (m + n) old new some made (IsBounded-erosion s e m n (relief s (values_of code old)) (relief s (values_of code new)) numbers
+      (IsBounded-relief code s m old plain) made.filtered)
 
   -- whatever a filter makes of plain heights is plain, within more
-  pub ArePlain-filtered : (filter : Filter) (s : Size) (e : ElementTable) (old new : List L) → 1 ≤ s.points → HasNumbersWithin code.most_number e → ArePlain code s code.most_height old → ArePlainlyFiltered code filter s e old new → ArePlain code s (most_filtered code) new
+  pub ArePlain-filtered : (filter : Filter) (s : Size) (e : ElementTable) (old new : List L) → 1 ≤ s.points → HasNumbersWithin code.most_number e
+      → ArePlain code s code.most_height old → ArePlainlyFiltered code filter s e old new → ArePlain code s (most_filtered code) new
   ArePlain-filtered Dilation s e old new some numbers plain made =
       ArePlain-more code s (most_between code) (most_filtered code) new (omega arith) (ArePlain-dilated s e code.most_height code.most_number old new some numbers plain made)
   ArePlain-filtered Erosion s e old new some numbers plain made =

@@ -81,10 +81,12 @@ module _ {L : Type 0} (code : Encoding L) where
   module _ (s : Size) (e : ElementTable) (f old new : List L) (some : 1 ≤ s.points) (is : IsElement e) (whole : length old ≡ cell_count s) where
     -- dilated heights stand where the heights do
     pub StandAlike-dilated : StandAlike (values_of code f) (values_of code old) → ArePlainlyFiltered code Dilation s e old new → StandAlike (values_of code f) (values_of code new)
-    StandAlike-dilated alike made = StandAlike-points s (values_of code f) (values_of code old) (values_of code new) some (values_of-length code old ∙ whole) (values_of-length code new ∙ made.whole) alike
+    StandAlike-dilated alike made = StandAlike-points s (values_of code f) (values_of code old) (values_of code new) some (values_of-length code old ∙ whole)
+        (values_of-length code new ∙ made.whole) alike
         (HaveSamePoints-dilation s e (relief s (values_of code old)) (relief s (values_of code new)) (HasOrigin-element e is) made.filtered)
 
     -- and so do eroded ones
     pub StandAlike-eroded : StandAlike (values_of code f) (values_of code old) → ArePlainlyFiltered code Erosion s e old new → StandAlike (values_of code f) (values_of code new)
-    StandAlike-eroded alike made = StandAlike-points s (values_of code f) (values_of code old) (values_of code new) some (values_of-length code old ∙ whole) (values_of-length code new ∙ made.whole) alike
+    StandAlike-eroded alike made = StandAlike-points s (values_of code f) (values_of code old) (values_of code new) some (values_of-length code old ∙ whole)
+        (values_of-length code new ∙ made.whole) alike
         (HaveSamePoints-erosion s e (relief s (values_of code old)) (relief s (values_of code new)) (HasOrigin-element e is) made.filtered)

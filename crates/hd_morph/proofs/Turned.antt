@@ -144,7 +144,8 @@ IsElement-turned e is = record {
 }
 
 -- the table decides alone whether it makes an element
-pub IsElement-renamed : (e : ElementTable) (name : List ℕ) (table : List (Option ℤ)) → table ≡ e.table → IsElement e → IsElement (record { name = name; width = e.width; height = e.height; table = table })
+pub IsElement-renamed : (e : ElementTable) (name : List ℕ) (table : List (Option ℤ)) → table ≡ e.table → IsElement e
+    → IsElement (record { name = name; width = e.width; height = e.height; table = table })
 IsElement-renamed e name table same is =
     subst (λ (t : List (Option ℤ)). IsElement (record { name = name; width = e.width; height = e.height; table = t })) (sym same)
     (record { odd_width = is.odd_width; odd_height = is.odd_height; width = is.width; height = is.height; whole = is.whole; entries = is.entries; origin = is.origin })
@@ -185,10 +186,12 @@ module _ {L : Type 0} (code : Encoding L) where
 
   -- the negated dilation of negated numbers by the turned element is the erosion
   pub ArePlainlyFiltered-eroded : (s : Size) (e : ElementTable) (n : ℕ) (old negatives lowered new : List L) → IsElement e → AreNegated code old negatives
-      → IsDilation s (turned_table e) (relief s (values_of code negatives)) (relief s (values_of code lowered)) → ArePlain code s n lowered → AreNegated code lowered new → ArePlainlyFiltered code Erosion s e old new
+      → IsDilation s (turned_table e) (relief s (values_of code negatives)) (relief s (values_of code lowered)) → ArePlain code s n lowered → AreNegated code lowered new
+      → ArePlainlyFiltered code Erosion s e old new
   ArePlainlyFiltered-eroded s e n old negatives lowered new is first dilation plain second = record {
     whole = second.whole ∙ plain.whole;
-    filtered = IsErosion-turned s e (relief s (values_of code old)) (relief s (values_of code negatives)) (relief s (values_of code lowered)) (relief s (values_of code new)) is (IsNegative-relief s old negatives first) dilation
+    filtered = IsErosion-turned s e (relief s (values_of code old)) (relief s (values_of code negatives)) (relief s (values_of code lowered)) (relief s (values_of code new)) is
+        (IsNegative-relief s old negatives first) dilation
         (IsNegative-relief s lowered new second);
     absent = λ k none. (second.each k).absent (minus_gone (code.shown (number_in code lowered k)) (sym (second.each k).value ∙ none));
   }

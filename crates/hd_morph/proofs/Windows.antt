@@ -1,11 +1,13 @@
 -- The greatest of the values near a place, by strides.
-use Rattle.std.proofs.Common.{◌≡◌, ◌<◌, ◌≤◌, ◌+◌, ◌-◌, ◌*◌, ◌/◌, ◌%◌, ℕ, ℤ, List, length, slice_set, length-set, get_or-set_same, get_or-set_other, Option, None, inl, inr, refl, ap, subst, sym, ◌∙◌, arith}
+use Rattle.std.proofs.Common.{◌≡◌, ◌<◌, ◌≤◌, ◌+◌, ◌-◌, ◌*◌, ◌/◌, ◌%◌, ℕ, ℤ, List, length, slice_set, length-set, get_or-set_same, get_or-set_other}
+use Rattle.std.proofs.Common.{Option, None, inl, inr, refl, ap, subst, sym, ◌∙◌, arith}
 use Rattle.std.proofs.lemmas.Int.{ints}
 use Rattle.std.proofs.lemmas.Bool.{cases_lt}
 use Rattle.std.proofs.Math.Nat.{mul-le-mul_right}
 use Rattle.hd_morph.specs.Greatest.{larger}
 use Rattle.hd_morph.specs.Plain.{value_at}
-use Rattle.hd_morph.specs.Window.{IsNearby, AreWindowGreatests, IsStridesOff, AreStrideGreatests, IsAhead, AreAheadGreatests, IsWidened, AreWidened, IsBehind, IsLookedBackAt, IsLookedBack, AreLookedBack}
+use Rattle.hd_morph.specs.Window.{IsNearby, AreWindowGreatests, IsStridesOff, AreStrideGreatests, IsAhead, AreAheadGreatests, IsWidened, AreWidened}
+use Rattle.hd_morph.specs.Window.{IsBehind, IsLookedBackAt, IsLookedBack, AreLookedBack}
 use Rattle.hd_morph.proofs.Greatest.{IsGreatest-same_values, IsGreatest-join}
 
 -- one value ahead is that of the place itself
@@ -36,22 +38,34 @@ back_steps stride reach place from at steps b near back = elim (cases_lt b.steps
 ]
 
 -- two stretches that leave no value between them out are one
-pub AreAheadGreatests-join : (values old new : List (Option ℤ)) (stride seen step : ℕ) → step ≤ seen → AreAheadGreatests values stride seen old → IsWidened old (step * stride) new → AreAheadGreatests values stride (seen + step) new
+pub AreAheadGreatests-join : (values old new : List (Option ℤ)) (stride seen step : ℕ) → step ≤ seen → AreAheadGreatests values stride seen old → IsWidened old (step * stride) new
+    → AreAheadGreatests values stride (seen + step) new
 AreAheadGreatests-join values old new stride seen step joined before now = record {
   whole = omega (arith, before.whole, now.whole);
   each = λ place. rw (now.each place) (IsGreatest-join (IsAhead values stride seen place) (IsAhead values stride seen (place + step * stride)) (IsAhead values stride (seen + step) place)
       (value_at old place) (value_at old (place + step * stride))
       (λ z a. record { steps = a.steps; to = omega (arith, a.to); is = a.is })
-      (λ z a. record { steps = step + a.steps; to = omega (arith, a.to); is = (let here : place + (step + a.steps) * stride ≡ (place + step * stride) + a.steps * stride = omega arith in rw here a.is) })
+      (λ z a. record {
+        steps = step + a.steps;
+        to = omega (arith, a.to);
+        is = (let here : place + (step + a.steps) * stride ≡ (place + step * stride)
+            + a.steps * stride = omega arith in rw here a.is);
+      })
       (λ z a. elim (cases_lt a.steps seen) [
         | inl here ↦ inl (record { steps = a.steps; to = here; is = a.is })
-        | inr later ↦ inr (record { steps = a.steps - step; to = omega (arith, a.to); is = (let here : (place + step * stride) + (a.steps - step) * stride ≡ place + a.steps * stride = strides_sum place step (a.steps - step) a.steps stride (omega arith) in rw here a.is) })
+        | inr later ↦ inr (record {
+          steps = a.steps - step;
+          to = omega (arith, a.to);
+          is = (let here : (place + step * stride) + (a.steps - step) * stride ≡ place
+              + a.steps * stride = strides_sum place step (a.steps - step) a.steps stride (omega arith) in rw here a.is);
+        })
       ])
       (before.each place) (before.each (place + step * stride)));
 }
 
 -- the values ahead of a place, and ahead of one that is reach strides behind it, are those near it
-pub AreStrideGreatests-join : (values old new : List (Option ℤ)) (stride reach : ℕ) → AreAheadGreatests values stride (reach + 1) old → IsLookedBack old stride reach new → AreStrideGreatests values stride reach new
+pub AreStrideGreatests-join : (values old new : List (Option ℤ)) (stride reach : ℕ) → AreAheadGreatests values stride (reach + 1) old → IsLookedBack old stride reach new
+    → AreStrideGreatests values stride reach new
 AreStrideGreatests-join values old new stride reach before now = record {
   whole = omega (arith, before.whole, now.whole);
   each = λ place inside.
@@ -136,7 +150,8 @@ AreWidened-more old now step from place new after room is was = record {
 }
 
 -- a further run is widened
-pub AreWidened-join : (old now new : List (Option ℤ)) (step from mid to : ℕ) → from ≤ mid → mid ≤ to → AreWidened old step from mid now → AreWidened now step mid to new → AreWidened old step from to new
+pub AreWidened-join : (old now new : List (Option ℤ)) (step from mid to : ℕ) → from ≤ mid → mid ≤ to → AreWidened old step from mid now → AreWidened now step mid to new
+    → AreWidened old step from to new
 AreWidened-join old now new step from mid to low high was is = record {
   whole = is.whole ∙ was.whole;
   inside = λ k more less. elim (cases_lt k mid) [
@@ -169,7 +184,8 @@ AreLookedBack-more old now step place next to new onward far before room is was 
 }
 
 -- a further run of at most a step is looked back from
-pub AreLookedBack-join : (old now new : List (Option ℤ)) (step from mid to : ℕ) → step ≤ from → from ≤ mid → mid ≤ to → mid ≤ from + step → 0 < step → AreLookedBack old step mid to now → AreLookedBack now step from mid new
+pub AreLookedBack-join : (old now new : List (Option ℤ)) (step from mid to : ℕ) → step ≤ from → from ≤ mid → mid ≤ to → mid ≤ from + step → 0 < step
+    → AreLookedBack old step mid to now → AreLookedBack now step from mid new
     → AreLookedBack old step from to new
 AreLookedBack-join old now new step from mid to far low high run some was is = record {
   whole = is.whole ∙ was.whole;
@@ -188,7 +204,8 @@ pub record LookedBackFrom (old : List (Option ℤ)) (stride reach place : ℕ) (
   pub left : (k : ℕ) → k < place → value_at now k ≡ value_at old k
 
 -- those that have as many strides behind them are looked back from
-pub LookedBackFrom-far : (old now : List (Option ℤ)) (stride reach place : ℕ) → place ≤ reach * stride → ((k : ℕ) → place ≤ k → k < length old → reach * stride ≤ k) → AreLookedBack old (reach * stride) (reach * stride) (length old) now
+pub LookedBackFrom-far : (old now : List (Option ℤ)) (stride reach place : ℕ) → place ≤ reach * stride → ((k : ℕ) → place ≤ k → k < length old → reach * stride ≤ k)
+    → AreLookedBack old (reach * stride) (reach * stride) (length old) now
     → LookedBackFrom old stride reach place now
 LookedBackFrom-far old now stride reach place low far was = record {
   whole = was.whole;

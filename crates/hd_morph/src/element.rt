@@ -44,7 +44,13 @@ impl Element {
     ) -> Result<Element, ElementError>
         requires whole { length table ≡ width * height }
         requires entries { All IsEntry table }
-        ensures { MakesElement (record { name = name; width = width; height = height; table = table }) result }
+        ensures { MakesElement (record {
+          name = name;
+          width = width;
+          height = height;
+          table =
+              table;
+        }) result }
     {
         if width % 2 == 0 || height % 2 == 0 {
             return Err(ElementError::EvenSize);

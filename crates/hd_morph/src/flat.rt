@@ -18,7 +18,8 @@ use std::alloc::Global;
 
 /// The number of an element that has one and the same everywhere.
 pub fn flat_number(element: &Element) -> Option<i64>
-    ensures flat { IfSome result (λ n. IsFlat element.now (element.now.width / 2) (element.now.height / 2) n) }
+    ensures flat { IfSome result (λ n. IsFlat element.now (element.now.width / 2)
+        (element.now.height / 2) n) }
     ensures element { IsElement element.now }
 {
     let table = element.table();

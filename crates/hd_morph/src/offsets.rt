@@ -64,7 +64,8 @@ fn raise_rows<L: Raise>(tops: &mut [L], heights: &[L], size: Size, element: &Ele
     requires heights { ArePlain L.code size (most_between L.code) heights.now }
     requires numbers { HasNumbersWithin L.code.most_number element.now }
     requires blank { AreBlank size (values_of L.code tops.old) }
-    ensures { AreRaised size element.now (relief size (values_of L.code heights.now)) (values_of L.code tops.new) }
+    ensures { AreRaised size element.now (relief size (values_of L.code heights.now))
+        (values_of L.code tops.new) }
 {
     let points = size.points as usize;
     for y in 0..size.profiles {
@@ -80,7 +81,8 @@ fn raise_row<L: Raise>(tops: &mut [L], heights: &[L], size: Size, element: &Elem
     requires numbers { HasNumbersWithin L.code.most_number element.now }
     requires row { y < size.profiles }
     requires blank { IsBlankRow size (values_of L.code tops.old) }
-    ensures { IsRowRaised size element.now (relief size (values_of L.code heights.now)) y (values_of L.code tops.new) }
+    ensures { IsRowRaised size element.now (relief size (values_of L.code heights.now)) y
+        (values_of L.code tops.new) }
 {
     let table = element.table();
     let width = element.width();
@@ -109,7 +111,8 @@ fn raise_by<L: Raise>(
     requires whole { length tops.old ≡ size.points }
     requires column { offset.x < element.now.width }
     requires table_row { offset.y < element.now.height }
-    ensures { IsRowRaisedOnce size element.now (relief size (values_of L.code heights.now)) y offset (values_of L.code tops.old) (values_of L.code tops.new) }
+    ensures { IsRowRaisedOnce size element.now (relief size (values_of L.code heights.now)) y offset
+        (values_of L.code tops.old) (values_of L.code tops.new) }
 {
     let Some(number) = number_of(element, offset) else {
         return;
@@ -136,7 +139,8 @@ fn raise_from_row<L: Raise>(tops: &mut [L], heights: &[L], reach: usize, column:
     requires heights { IsPlain L.code (most_between L.code) heights.now }
     requires least { neg_ℤ (pos L.code.most_number) ≤ℤ number }
     requires greatest { number ≤ℤ pos L.code.most_number }
-    ensures { AreRaisedAcross (values_of L.code heights.now) reach column number (values_of L.code tops.old) (values_of L.code tops.new) }
+    ensures { AreRaisedAcross (values_of L.code heights.now) reach column number
+        (values_of L.code tops.old) (values_of L.code tops.new) }
 {
     let ahead = reach.saturating_sub(column);
     let behind = column.saturating_sub(reach);
@@ -161,7 +165,8 @@ fn raise_stretch<L: Raise>(
     requires heights { IsPlain L.code (most_between L.code) heights.now }
     requires least { neg_ℤ (pos L.code.most_number) ≤ℤ number }
     requires greatest { number ≤ℤ pos L.code.most_number }
-    ensures { AreRaisedTo (values_of L.code heights.now) from count number to (values_of L.code tops.old) (values_of L.code tops.new) }
+    ensures { AreRaisedTo (values_of L.code heights.now) from count number to
+        (values_of L.code tops.old) (values_of L.code tops.new) }
 {
     for step in 0..count {
         let raised = heights[from + step].raised_by(number);
@@ -183,7 +188,8 @@ fn row_before(size: Size, element: &Element, y: u32, row: u32) -> Option<u32>
     requires size { IsSize size }
     requires row { y < size.profiles }
     requires table_row { row < element.now.height }
-    ensures some { IfSome result (λ from. (from < size.profiles) × (from + row ≡ y + element.now.height / 2)) }
+    ensures some { IfSome result (λ from. (from < size.profiles)
+        × (from + row ≡ y + element.now.height / 2)) }
     ensures none { IfNone result ((from : ℕ) → from < size.profiles
         → from + row ≡ y + element.now.height / 2 → ⊥) }
 {

@@ -20,7 +20,8 @@ pub fn negate<L: Lane>(values: &mut [L])
 
 /// Adds a number to each top where a height stands; elsewhere nothing stands.
 pub fn settle<L: Raise>(tops: &mut [L], heights: &[L], number: i64)
-    requires topped { AreTopped (most_filtered L.code) (values_of L.code heights.now) (values_of L.code tops.old) }
+    requires topped { AreTopped (most_filtered L.code) (values_of L.code heights.now)
+        (values_of L.code tops.old) }
     requires least { neg_ℤ (pos L.code.most_number) ≤ℤ number }
     requires greatest { number ≤ℤ pos L.code.most_number }
     ensures { AreSettled L.code (values_of L.code heights.now) (values_of L.code tops.old) number tops.new }

@@ -32,7 +32,8 @@ pub trait Raise: Lane {
     /// The number itself, a top, plus another number where a height stands, and else none.
     #[inline]
     fn settled(self, height: Self, number: i64) -> Self
-        requires topped { (z : ℤ) → Self.code.shown height ≡ Some z → IsNumberWithin (most_filtered Self.code) (Self.code.shown self) }
+        requires topped { (z : ℤ) → Self.code.shown height ≡ Some z
+            → IsNumberWithin (most_filtered Self.code) (Self.code.shown self) }
         requires least { neg_ℤ (pos Self.code.most_number) ≤ℤ number }
         requires greatest { number ≤ℤ pos Self.code.most_number }
         ensures { IsSettled Self.code (Self.code.shown height) (Self.code.shown self) number result }

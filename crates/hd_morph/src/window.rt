@@ -101,7 +101,8 @@ fn look_back<L: Raise>(tops: &mut [L], stride: usize, reach: usize)
 // Puts at each place from a step on the larger of its value and of that which is a step behind, and
 // leaves the others. The loops are parted as those of `widen`.
 fn look_far_back<L: Raise>(tops: &mut [L], step: usize)
-    ensures { AreLookedBack (values_of L.code tops.old) step step (length tops.old) (values_of L.code tops.new) }
+    ensures { AreLookedBack (values_of L.code tops.old) step step (length tops.old)
+        (values_of L.code tops.new) }
 {
     let end = tops.len();
     if end <= step {
@@ -124,7 +125,8 @@ fn look_far_back<L: Raise>(tops: &mut [L], step: usize)
 fn look_back_by_runs<L: Raise>(tops: &mut [L], step: usize)
     requires some { 0 < step }
     requires room { step ≤ length tops.old }
-    ensures { AreLookedBack (values_of L.code tops.old) step step (length tops.old) (values_of L.code tops.new) }
+    ensures { AreLookedBack (values_of L.code tops.old) step step (length tops.old)
+        (values_of L.code tops.new) }
 {
     let mut to = tops.len();
     'run: while to > step {

@@ -1,5 +1,7 @@
 -- The digits and the exponent of a decimal.
-use Rattle.std.proofs.Common.{◌≡◌, ℕ, ℤ, pos, ◌+◌, ◌-◌, ◌*◌, ◌^◌, ◌<◌, ◌≤◌, List, [], ◌∷◌, ◌++◌, length, take, drop, get_or, min, Bool, true, false, not, ◌&&◌, ◌||◌, ◌==◌, ◌-ℤ◌, ap₂, eqb, ltb, Some, None, if◌then◌else◌, inl, inr, refl, sym, ap, ◌∙◌, arith, rules, length-append}
+use Rattle.std.proofs.Common.{◌≡◌, ℕ, ℤ, pos, ◌+◌, ◌-◌, ◌*◌, ◌^◌, ◌<◌, ◌≤◌, List, [], ◌∷◌, ◌++◌, length, take, drop, get_or, min, Bool, true, false, not}
+use Rattle.std.proofs.Common.{◌&&◌, ◌||◌, ◌==◌, ◌-ℤ◌, ap₂, eqb, ltb, Some, None, if◌then◌else◌, inl, inr, refl, sym, ap, ◌∙◌, arith, rules}
+use Rattle.std.proofs.Common.{length-append}
 use Rattle.std.specs.Char.{is_ascii_digit, digit_value}
 use Rattle.std.specs.List.{list_all, position_or_len, before_first, after_first}
 use Rattle.std.specs.Str.Parse.{digits_value, digits_value_after, signed_digits_value, starts_with_minus, without_leading_sign}
@@ -13,7 +15,8 @@ use Rattle.std.proofs.lemmas.List.{take_more, take_all, length-take-le}
 use Rattle.std.proofs.lemmas.List.Folds.{list_all-append}
 use Rattle.std.proofs.lemmas.Str.Parse.{digits_value_short}
 use Rattle.bstr.specs.Bytes.{is_in}
-use Rattle.hd_num.specs.Decimal.{IsSplit, IsValueOf, IsBounded, decimal_of, digits_of, fraction_digits, has_exponent, has_exponent_form, is_decimal, is_exponent, is_exponent_mark, is_point, is_unsigned_decimal, scale_of, whole_digits}
+use Rattle.hd_num.specs.Decimal.{IsSplit, IsValueOf, IsBounded, decimal_of, digits_of, fraction_digits, has_exponent, has_exponent_form, is_decimal}
+use Rattle.hd_num.specs.Decimal.{is_exponent, is_exponent_mark, is_point, is_unsigned_decimal, scale_of, whole_digits}
 use Rattle.hd_num.specs.Whole.{count_of, is_numeral, signed_number}
 use Rattle.hd_num.proofs.LinePieces.{AgreeOn}
 use Rattle.hd_num.proofs.WholeReadsBack.{IsNumeralModel-digits}
@@ -168,7 +171,8 @@ is_exponent-broken text ds is broken = rw (← is) (elim (cases_Bool (list_all i
 ])
 
 -- a count of at most three digits, with a sign or none, is an exponent
-pub is_exponent-right : (text ds : List ℕ) (n : ℕ) (negative : Bool) (z : ℤ) → ds ≡ without_leading_sign text → length ds ≤ 3 → IsCount ds n → negative ≡ starts_with_minus text → z ≡ signed_number negative n
+pub is_exponent-right : (text ds : List ℕ) (n : ℕ) (negative : Bool) (z : ℤ) → ds ≡ without_leading_sign text → length ds ≤ 3 → IsCount ds n → negative ≡ starts_with_minus text
+    → z ≡ signed_number negative n
     → (is_exponent text ≡ true) × (z ≡ signed_digits_value 10 text)
 is_exponent-right text ds n negative z is few count minus z_is =
     let parts : (not (eqb (length ds) 0) ≡ true) × (list_all is_ascii_digit ds ≡ true) = and_parts _ _ count.numeral in

@@ -1,5 +1,7 @@
 -- Reduced fractions.
-use Rattle.std.proofs.Common.{◌≡◌, ℕ, ℤ, zero, suc, pos, negsuc, neg_ℤ, ◌+◌, ◌*◌, ◌/◌, ◌%◌, ◌<◌, ◌≤◌, ◌^◌, ◌+ℤ◌, ◌*ℤ◌, int_lt, unsigned_abs, FitsSigned, to_z, of_z, refl, sym, ap, ap₂, subst, ◌∙◌, arith, Bool, true, false, mul_assoc, mul_comm, mul_right_comm, mul-div_cancel, mul-add, mul-pos, mul-le-mul_left, le_of_mul-le-mul_right, mul-lt-mul_of_pos_right, div-add-mod', subst₂}
+use Rattle.std.proofs.Common.{◌≡◌, ℕ, ℤ, zero, suc, pos, negsuc, neg_ℤ, ◌+◌, ◌*◌, ◌/◌, ◌%◌, ◌<◌, ◌≤◌, ◌^◌, ◌+ℤ◌, ◌*ℤ◌, int_lt, unsigned_abs, FitsSigned}
+use Rattle.std.proofs.Common.{to_z, of_z, refl, sym, ap, ap₂, subst, ◌∙◌, arith, Bool, true, false, mul_assoc, mul_comm, mul_right_comm, mul-div_cancel}
+use Rattle.std.proofs.Common.{mul-add, mul-pos, mul-le-mul_left, le_of_mul-le-mul_right, mul-lt-mul_of_pos_right, div-add-mod', subst₂}
 use mir.Syntax.{w128}
 use Rattle.std.specs.Int.{IsGcd, ◌∣◌}
 use Rattle.std.proofs.lemmas.Int.{unsigned_abs-mul, ints, to_z-of_z, to_z_pos}
@@ -75,7 +77,8 @@ IsReduced-zero num den r e = r.coprime den (subst (λ z. den ∣ unsigned_abs z)
 -- two reduced fractions of the same number are the same
 pub IsFraction-determined : (n : ℤ) (d : ℕ) (a : ℤ) (b : ℕ) (a' : ℤ) (b' : ℕ) → 0 < d → IsFraction n d a b → IsFraction n d a' b' → (a ≡ a') × (b ≡ b')
 IsFraction-determined n d a b a' b' some f g =
-    let same : b ≡ b' = dvd_antisymm (divides_other (unsigned_abs a) b b' f.reduced.coprime g.reduced.positive (subst (λ x. b ∣ x) (sym crossed ∙ mul_comm (unsigned_abs a) b') (dvd-mul_left b (unsigned_abs a'))))
+    let same : b ≡ b' = dvd_antisymm (divides_other (unsigned_abs a) b b' f.reduced.coprime g.reduced.positive
+    (subst (λ x. b ∣ x) (sym crossed ∙ mul_comm (unsigned_abs a) b') (dvd-mul_left b (unsigned_abs a'))))
     (divides_other (unsigned_abs a') b' b g.reduced.coprime f.reduced.positive (subst (λ x. b' ∣ x) (crossed ∙ mul_comm (unsigned_abs a') b) (dvd-mul_left b' (unsigned_abs a)))) in
     (cancel_signed a a' d some (sym f.value ∙ ap (λ x. n *ℤ pos x) same ∙ g.value), same)
   where
@@ -84,7 +87,8 @@ IsFraction-determined n d a b a' b' some f g =
 
     crossed : unsigned_abs a * b' ≡ unsigned_abs a' * b
     crossed = cancel (unsigned_abs a * b') (unsigned_abs a' * b) d some
-        (mul_right_comm (unsigned_abs a) b' d ∙ ap (λ x. x * b') (sym (sizes a b f.value)) ∙ mul_right_comm (unsigned_abs n) b b' ∙ ap (λ x. x * b) (sizes a' b' g.value) ∙ mul_right_comm (unsigned_abs a') d b)
+        (mul_right_comm (unsigned_abs a) b' d ∙ ap (λ x. x * b') (sym (sizes a b f.value)) ∙ mul_right_comm (unsigned_abs n) b b' ∙ ap (λ x. x * b) (sizes a' b' g.value)
+        ∙ mul_right_comm (unsigned_abs a') d b)
 
 pub size_of_signed : (minus : Bool) (m : ℕ) → unsigned_abs (signed_number minus m) ≡ m
 size_of_signed false m = refl
@@ -173,7 +177,8 @@ module _ (a : ℤ) (b : ℕ) (c : ℤ) (d : ℕ) (some : 0 < b) (some' : 0 < d) 
   sum_over_product-fits = subst₂ (λ x y. FitsSigned w128 (x +ℤ y)) (sym own_kept) (sym other_kept) (sum_of_small (a *ℤ pos d) (c *ℤ pos b) (product_small a d own) (product_small c b other))
 
   -- and is the numerator of the sum
-  pub sum_over_product-kept : to_z w128 (of_z w128 (to_z w128 (of_z w128 (to_z w128 (of_z w128 a) *ℤ to_z w128 d)) +ℤ to_z w128 (of_z w128 (to_z w128 (of_z w128 c) *ℤ to_z w128 b)))) ≡ sum_over_product a b c d
+  pub sum_over_product-kept : to_z w128 (of_z w128 (to_z w128 (of_z w128 (to_z w128 (of_z w128 a) *ℤ to_z w128 d)) +ℤ to_z w128
+      (of_z w128 (to_z w128 (of_z w128 c) *ℤ to_z w128 b)))) ≡ sum_over_product a b c d
   sum_over_product-kept = to_z-of_z w128 _ sum_over_product-fits ∙ ap₂ (λ x y. x +ℤ y) own_kept other_kept
 
 -- a reduced fraction is made of no greater numbers

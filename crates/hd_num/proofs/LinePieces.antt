@@ -1,5 +1,6 @@
 -- Where the pieces of a text end: a line is the piece at its place, and the words of a line are its pieces that have bytes.
-use Rattle.std.proofs.Common.{◌≡◌, ℕ, zero, suc, ◌+◌, ◌-◌, ◌<◌, ◌≤◌, ◌||◌, ◌==◌, List, [], ◌∷◌, length, get_or, take, drop, Bool, true, false, not, arith, refl, sym, ◌∙◌, ap, ap₂, length-drop, length-take, min, inl, inr, if◌then◌else◌, ◌++◌, map, append_assoc}
+use Rattle.std.proofs.Common.{◌≡◌, ℕ, zero, suc, ◌+◌, ◌-◌, ◌<◌, ◌≤◌, ◌||◌, ◌==◌, List, [], ◌∷◌, length, get_or, take, drop, Bool, true, false, not}
+use Rattle.std.proofs.Common.{arith, refl, sym, ◌∙◌, ap, ap₂, length-drop, length-take, min, inl, inr, if◌then◌else◌, ◌++◌, map, append_assoc}
 use Rattle.std.specs.List.{position_or_len, slice_split, onto_first, AllPairs}
 use Rattle.std.specs.Prelude.{slice_range, All, filter}
 use Rattle.std.proofs.lemmas.Bool.{false_from_ne_true, ne_eqb, cases_lt}

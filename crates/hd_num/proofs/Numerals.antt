@@ -28,7 +28,8 @@ digits_value-saturated word i value lt here so_far =
     omega (arith, more, digit)
 
 -- one more digit of a value
-pub digits_value-more : (word : List ℕ) (i : ℕ) → i < length word → is_ascii_digit (get_or word i 0) ≡ true → digits_value 10 (take (i + 1) word) ≡ digits_value 10 (take i word) * 10 + (get_or word i 0 - 48)
+pub digits_value-more : (word : List ℕ) (i : ℕ) → i < length word → is_ascii_digit (get_or word i 0) ≡ true
+    → digits_value 10 (take (i + 1) word) ≡ digits_value 10 (take i word) * 10 + (get_or word i 0 - 48)
 digits_value-more word i lt here = digits_value_more 10 word i lt ∙ ap (λ n. digits_value 10 (take i word) * 10 + n) (digit_value-ascii (get_or word i 0) here)
 
 -- at most eighteen digits write a number below 10 ^ 18

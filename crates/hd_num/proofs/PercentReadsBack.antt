@@ -1,5 +1,6 @@
 -- The text of a percent is read as that percent.
-use Rattle.std.proofs.Common.{◌≡◌, ◌+◌, ◌-◌, ◌*◌, ◌/◌, ◌%◌, ◌≤◌, ◌<◌, ◌&&◌, ◌==◌, ℕ, Bool, true, List, [], ◌∷◌, ◌++◌, length, take, drop, Option, Some, None, if◌then◌else◌, inl, inr, refl, sym, ap, ap₂, ◌∙◌, arith, append_assoc, length-append, add-zero, zero-add}
+use Rattle.std.proofs.Common.{◌≡◌, ◌+◌, ◌-◌, ◌*◌, ◌/◌, ◌%◌, ◌≤◌, ◌<◌, ◌&&◌, ◌==◌, ℕ, Bool, true, List, [], ◌∷◌, ◌++◌, length, take, drop, Option, Some}
+use Rattle.std.proofs.Common.{None, if◌then◌else◌, inl, inr, refl, sym, ap, ap₂, ◌∙◌, arith, append_assoc, length-append, add-zero, zero-add}
 use Rattle.std.specs.Prelude.{decimal, nat_le, nat_lt, slice_index_or}
 use Rattle.std.specs.Char.{digit_value, is_ascii_digit}
 use Rattle.std.specs.Int.{is_in_range}
@@ -9,7 +10,8 @@ use Rattle.std.proofs.lemmas.Bool.{and_from, cases_Bool, eqb-true, lt-ltb, le-le
 use Rattle.std.proofs.lemmas.Bool.Decides.{nat_tests}
 use Rattle.std.proofs.lemmas.Fmt.{decimal_nonempty, digits_decimal, digits_value-decimal, length-decimal-le}
 use Rattle.hd_num.specs.Decimal.{is_point}
-use Rattle.hd_num.specs.Percent.{are_few_digits, digits_left, few_digits_of, fraction_of, fraction_text, percent_before, percent_of, percent_of_parts, percent_text, percent_within, thousandths_of, three_digits}
+use Rattle.hd_num.specs.Percent.{are_few_digits, digits_left, few_digits_of, fraction_of, fraction_text, percent_before, percent_of, percent_of_parts}
+use Rattle.hd_num.specs.Percent.{percent_text, percent_within, thousandths_of, three_digits}
 use Rattle.hd_num.proofs.WholeReadsBack.{IsNumeralModel-digits}
 use Rattle.hd_num.proofs.StepsReadBack.{is_point-digit, position_or_len-past_digits}
 
@@ -32,7 +34,8 @@ two_digits a b small less =
 
 three : (a b c : ℕ) → a < 10 → b < 10 → c < 10 → fraction_of ((48 + a) ∷ (48 + b) ∷ (48 + c) ∷ []) ≡ Some (((a * 10 + b) * 10 + c) * 1)
 three a b c small less few =
-    ap₂ (λ (p : Bool) (v : ℕ). if p && (is_ascii_digit (48 + b) && (is_ascii_digit (48 + c) && true)) then Some ((((0 + v) * 10 + digit_value (48 + b)) * 10 + digit_value (48 + c)) * 1) else None) (digit_back a small) (value_back a small)
+    ap₂ (λ (p : Bool) (v : ℕ). if p && (is_ascii_digit (48 + b) && (is_ascii_digit (48 + c) && true)) then Some
+    ((((0 + v) * 10 + digit_value (48 + b)) * 10 + digit_value (48 + c)) * 1) else None) (digit_back a small) (value_back a small)
     ∙ ap₂ (λ (p : Bool) (v : ℕ). if p && (is_ascii_digit (48 + c) && true) then Some ((((0 + a) * 10 + v) * 10 + digit_value (48 + c)) * 1) else None) (digit_back b less) (value_back b less)
     ∙ ap₂ (λ (p : Bool) (v : ℕ). if p && true then Some ((((0 + a) * 10 + b) * 10 + v) * 1) else None) (digit_back c few) (value_back c few)
     ∙ ap (λ (n : ℕ). Some (((n * 10 + b) * 10 + c) * 1)) (zero-add a)

@@ -1,5 +1,6 @@
 -- One to three digits, and the texts of percents.
-use Rattle.std.proofs.Common.{◌≡◌, ℕ, suc, ◌<◌, ◌≤◌, ◌^◌, List, [], ◌∷◌, length, Bool, true, false, not, ◌&&◌, ◌==◌, ltb, Option, Some, None, Ok, Err, if◌then◌else◌, inl, inr, subst, refl, sym, ap, ◌∙◌, arith}
+use Rattle.std.proofs.Common.{◌≡◌, ℕ, suc, ◌<◌, ◌≤◌, ◌^◌, List, [], ◌∷◌, length, Bool, true, false, not, ◌&&◌, ◌==◌, ltb, Option, Some, None, Ok, Err}
+use Rattle.std.proofs.Common.{if◌then◌else◌, inl, inr, subst, refl, sym, ap, ◌∙◌, arith}
 use Rattle.std.specs.Prelude.{IfSome, Result, OnErr, ℤ, pos, negsuc, ◌*ℤ◌, int_lt, FitsSigned}
 use mir.Syntax.{w64, w128}
 use mir.Val.{to_z, of_z}
@@ -46,10 +47,11 @@ few_below : (text : List ℕ) → are_few_digits text ≡ true → length text �
 few_below text e h = digits_value-small text (and_parts _ _ e).1 h
 
 pub few_digits_of-small : (text : List ℕ) (o : Option ℕ) → length text ≤ 3 → o ≡ few_digits_of text → IfSome o (λ n. n < 1000)
-few_digits_of-small text o h e = subst (λ p. IfSome p (λ n. n < 1000)) (sym e) (elim (are_few_digits text) as (λ v. are_few_digits text ≡ v → IfSome (if v then Some (digits_value 10 text) else None) (λ n. n < 1000)) [
-  | true ↦ λ f. few_below text f h
-  | false ↦ λ f. tt
-] refl)
+few_digits_of-small text o h e = subst (λ p. IfSome p (λ n. n < 1000)) (sym e) (elim (are_few_digits text) as (λ v. are_few_digits text ≡ v
+    → IfSome (if v then Some (digits_value 10 text) else None) (λ n. n < 1000)) [
+      | true ↦ λ f. few_below text f h
+      | false ↦ λ f. tt
+    ] refl)
 
 pub unsigned_abs-small : (z : ℤ) → FitsSigned w64 z → unsigned_abs z ≤ 2 ^ 63
 unsigned_abs-small (pos n) h = omega (arith, ints)
@@ -65,8 +67,10 @@ is_percent_less-kept l s t a b c ea eb ec hl hs ht =
     let kl : to_z w128 (of_z w128 l) ≡ l = to_z-of_z w128 l (wide l hl) in
     let kt : to_z w128 (of_z w128 (pos t)) ≡ pos t = to_z-of_z w128 (pos t) (omega (arith, ints)) in
     let ks : to_z w128 (of_z w128 s) ≡ s = to_z-of_z w128 s (wide s hs) in
-    let left : to_z w128 (of_z w128 (l *ℤ pos 100000)) ≡ l *ℤ pos 100000 = to_z-of_z w128 (l *ℤ pos 100000) (fits_signed_mul w128 l (pos 100000) (2 ^ 63) 100000 (unsigned_abs-small l hl) (omega arith) (omega arith)) in
-    let right : to_z w128 (of_z w128 (pos t *ℤ s)) ≡ pos t *ℤ s = to_z-of_z w128 (pos t *ℤ s) (fits_signed_mul w128 (pos t) s (2 ^ 32) (2 ^ 63) (omega arith) (unsigned_abs-small s hs) (omega arith)) in
+    let left : to_z w128 (of_z w128 (l *ℤ pos 100000)) ≡ l *ℤ pos 100000 = to_z-of_z w128 (l *ℤ pos 100000)
+    (fits_signed_mul w128 l (pos 100000) (2 ^ 63) 100000 (unsigned_abs-small l hl) (omega arith) (omega arith)) in
+    let right : to_z w128 (of_z w128 (pos t *ℤ s)) ≡ pos t *ℤ s = to_z-of_z w128 (pos t *ℤ s)
+    (fits_signed_mul w128 (pos t) s (2 ^ 32) (2 ^ 63) (omega arith) (unsigned_abs-small s hs) (omega arith)) in
     rw (ea, eb, ec, kl, kt, ks, left, right) refl
 
 -- what holds after an error

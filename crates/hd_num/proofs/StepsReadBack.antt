@@ -1,5 +1,7 @@
 -- The text of a height is read as its decimal.
-use Rattle.std.proofs.Common.{◌≡◌, ◌≢◌, ◌+◌, ◌-◌, ◌*◌, ◌/◌, ◌%◌, ◌≤◌, ◌<◌, ◌^◌, ℕ, ℤ, zero, suc, pos, neg_ℤ, Bool, true, false, not, cond, int_lt, unsigned_abs, List, [], ◌∷◌, ◌++◌, length, take, drop, get_or, replicate, Some, if◌then◌else◌, refl, sym, ap, ap₂, ◌∙◌, arith, ne_eqb, length-append, pow-suc, add-mul, mul_assoc, mul_comm, append-nil, div-add-mod', div-le_self, div-one}
+use Rattle.std.proofs.Common.{◌≡◌, ◌≢◌, ◌+◌, ◌-◌, ◌*◌, ◌/◌, ◌%◌, ◌≤◌, ◌<◌, ◌^◌, ℕ, ℤ, zero, suc, pos, neg_ℤ, Bool, true, false, not, cond, int_lt}
+use Rattle.std.proofs.Common.{unsigned_abs, List, [], ◌∷◌, ◌++◌, length, take, drop, get_or, replicate, Some, if◌then◌else◌, refl, sym, ap, ap₂, ◌∙◌}
+use Rattle.std.proofs.Common.{arith, ne_eqb, length-append, pow-suc, add-mul, mul_assoc, mul_comm, append-nil, div-add-mod', div-le_self, div-one}
 use Rattle.std.specs.Prelude.{decimal, FitsSigned}
 use mir.Syntax.{w64}
 use Rattle.std.specs.Char.{digit_value, is_ascii_digit}
@@ -104,11 +106,13 @@ IsTail-point fs all =
 
 -- a word of a sign or none, digits and such a tail is read as a decimal
 pub decimal_of-word : (word ds tail fs : List ℕ) (negative : Bool) (value scale : ℕ) → without_leading_sign word ≡ ds ++ tail → starts_with_minus word ≡ negative → length word ≤ 64
-    → list_all is_ascii_digit ds ≡ true → list_all is_ascii_digit fs ≡ true → 1 ≤ length ds + length fs → length ds + length fs ≤ 38 → length fs ≡ scale → IsTail tail fs → value ≡ digits_value 10 (ds ++ fs)
+    → list_all is_ascii_digit ds ≡ true → list_all is_ascii_digit fs ≡ true → 1 ≤ length ds + length fs → length ds + length fs ≤ 38 → length fs ≡ scale → IsTail tail fs
+    → value ≡ digits_value 10 (ds ++ fs)
     → Some (record { negative = negative; digits = value; exponent = neg_ℤ (pos scale); literal = word }) ≡ decimal_of word
 decimal_of-word word ds tail fs negative value scale unsigned minus short all more some few size ends value_is =
     let text : List ℕ = ds ++ tail in
-    let marks : position_or_len is_exponent_mark text ≡ length text = position_or_len-past_digits is_exponent_mark no_mark ds tail all ∙ ap (λ n. length ds + n) ends.marks ∙ sym (length-append ds tail) in
+    let marks : position_or_len is_exponent_mark text ≡ length text = position_or_len-past_digits is_exponent_mark no_mark ds tail all ∙ ap (λ n. length ds + n) ends.marks
+    ∙ sym (length-append ds tail) in
     let point : position_or_len is_point text ≡ length ds + 0 = position_or_len-past_digits is_point is_point-digit ds tail all ∙ ap (λ n. length ds + n) ends.point in
     let plain : length ds + 0 ≡ length ds = omega arith in
     let whole : ds ≡ before_first is_point text = sym (ap (λ n. take n text) (point ∙ plain) ∙ take-append_seam ds tail) in
@@ -119,7 +123,8 @@ decimal_of-word word ds tail fs negative value scale unsigned minus short all mo
     (sym minus) refl
 
 -- a sign, digits and such a tail are read as a decimal
-decimal_parts : (negative : Bool) (ds tail fs : List ℕ) (value scale : ℕ) → list_all is_ascii_digit ds ≡ true → list_all is_ascii_digit fs ≡ true → 0 < length ds → length ds ≤ 20 → scale ≤ 18 → length fs ≡ scale
+decimal_parts : (negative : Bool) (ds tail fs : List ℕ) (value scale : ℕ) → list_all is_ascii_digit ds ≡ true → list_all is_ascii_digit fs ≡ true → 0 < length ds → length ds ≤ 20
+    → scale ≤ 18 → length fs ≡ scale
     → IsTail tail fs → get_or ds 0 0 ≢ 45 → get_or ds 0 0 ≢ 43 → value ≡ digits_value 10 (ds ++ fs)
     → Some (record { negative = negative; digits = value; exponent = neg_ℤ (pos scale); literal = sign_text negative ++ (ds ++ tail) }) ≡ decimal_of (sign_text negative ++ (ds ++ tail))
 decimal_parts negative ds tail fs value scale all more some few small size ends minus plus value_is =
@@ -142,7 +147,8 @@ decimal_of_steps_text steps zero fits few =
     let ds : List ℕ = decimal (n / 1) in
     let wide : n / 1 < 2 ^ 64 = omega (arith, unsigned_abs-small steps fits, div-le_self n 1) in
     let value : n ≡ digits_value 10 (ds ++ []) = sym (ap (digits_value 10) (append-nil ds) ∙ digits_value-decimal IsNumeralModel-digits (n / 1) wide ∙ div-one n) in
-    sym (decimal_parts (int_lt steps (pos 0)) ds [] [] n 0 (digits_decimal IsNumeralModel-digits (n / 1) wide) refl (decimal_nonempty (n / 1) wide) (length-decimal-le 20 (n / 1) (omega arith) (omega (arith, wide)) wide) few refl IsTail-none
+    sym (decimal_parts (int_lt steps (pos 0)) ds [] [] n 0 (digits_decimal IsNumeralModel-digits (n / 1) wide) refl (decimal_nonempty (n / 1) wide)
+    (length-decimal-le 20 (n / 1) (omega arith) (omega (arith, wide)) wide) few refl IsTail-none
     (decimal-first (n / 1) 45 wide (omega arith)) (decimal-first (n / 1) 43 wide (omega arith)) value)
 decimal_of_steps_text steps (suc p) fits few =
     let n : ℕ = unsigned_abs steps in
@@ -152,7 +158,8 @@ decimal_of_steps_text steps (suc p) fits few =
     let wide : n / unit < 2 ^ 64 = omega (arith, unsigned_abs-small steps fits, div-le_self n unit) in
     let places = padded_digits (suc p) (n % unit) (omega arith) (ten_power-rest n unit (suc p) refl) (omega (arith, unsigned_abs-small steps fits, mod-le n unit)) in
     let value : n ≡ digits_value 10 (ds ++ fs) =
-    sym (digits_value_after-append 0 ds fs ∙ digits_value_after-split (digits_value 10 ds) fs ∙ ap₂ (λ x y. x * 10 ^ length fs + y) (digits_value-decimal IsNumeralModel-digits (n / unit) wide) places.value_is
+    sym (digits_value_after-append 0 ds fs ∙ digits_value_after-split (digits_value 10 ds) fs
+    ∙ ap₂ (λ x y. x * 10 ^ length fs + y) (digits_value-decimal IsNumeralModel-digits (n / unit) wide) places.value_is
     ∙ ap (λ k. n / unit * 10 ^ k + n % unit) places.count_is ∙ div-add-mod' n unit) in
     let text : steps_text steps (suc p) ≡ sign_text (int_lt steps (pos 0)) ++ (ds ++ (46 ∷ fs)) =
     ap (λ b. sign_text (int_lt steps (pos 0)) ++ (ds ++ (if b then [] else (46 ∷ fs)))) (ne_eqb (suc p) 0 (λ none. omega (arith, none))) in

@@ -1,5 +1,6 @@
 -- The texts of heights.
-use Rattle.std.proofs.Common.{◌≡◌, ◌+◌, ◌-◌, ◌/◌, ◌%◌, ◌≤◌, ◌<◌, ◌^◌, ℕ, ℤ, suc, pos, negsuc, true, false, int_lt, unsigned_abs, List, [], ◌∷◌, ◌++◌, length, take, replicate, sym, ap, ap₂, subst, ◌∙◌, arith, rules, ne_eqb}
+use Rattle.std.proofs.Common.{◌≡◌, ◌+◌, ◌-◌, ◌/◌, ◌%◌, ◌≤◌, ◌<◌, ◌^◌, ℕ, ℤ, suc, pos, negsuc, true, false, int_lt, unsigned_abs, List, [], ◌∷◌, ◌++◌}
+use Rattle.std.proofs.Common.{length, take, replicate, sym, ap, ap₂, subst, ◌∙◌, arith, rules, ne_eqb}
 use Rattle.std.specs.Prelude.{decimal, if◌then◌else◌}
 use Rattle.std.specs.Fmt.{sign_text, signed_decimal}
 use Rattle.std.proofs.lemmas.List.{take-replicate}

@@ -64,7 +64,8 @@ fn decimal_value(word: &[u8]) -> Option<(u128, i32)>
 
 // What stands before the exponent of a text, and the exponent, or 0 without one.
 fn split_exponent(text: &[u8]) -> Option<(&[u8], i32)>
-    ensures { MatchOption result (has_exponent_form text.now ≡ false) (λ parts. IsSplit text.now parts.0.now parts.1) }
+    ensures { MatchOption result (has_exponent_form text.now ≡ false)
+        (λ parts. IsSplit text.now parts.0.now parts.1) }
 {
     match text.find_byteset(b"eE") {
         Some(place) => {
@@ -77,7 +78,8 @@ fn split_exponent(text: &[u8]) -> Option<(&[u8], i32)>
 
 // The number that an exponent writes.
 fn exponent_value(text: &[u8]) -> Option<i32>
-    ensures form { MatchOption result (is_exponent text.now ≡ false) (λ n. (is_exponent text.now ≡ true) × (n ≡ signed_digits_value 10 text.now)) }
+    ensures form { MatchOption result (is_exponent text.now ≡ false)
+        (λ n. (is_exponent text.now ≡ true) × (n ≡ signed_digits_value 10 text.now)) }
     ensures small { IfSome result (IsBounded 999) }
 {
     let digits = unsigned_part(text);

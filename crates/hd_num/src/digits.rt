@@ -12,7 +12,8 @@ pub fn leading_digits(text: &[u8]) -> (usize, u64)
     ensures digits { list_all is_ascii_digit (take result.0 text.now) ≡ true }
     ensures value { result.1 ≡ digits_value 10 (take result.0 text.now) }
     ensures bound { result.1 < 10 ^ 18 }
-    ensures most { result.0 < 18 → result.0 < length text.now → is_ascii_digit (slice_index text.now result.0) ≡ false }
+    ensures most { result.0 < 18 → result.0 < length text.now
+        → is_ascii_digit (slice_index text.now result.0) ≡ false }
 {
     let mut number = 0u64;
     'digits: for (place, byte) in text.iter().enumerate() {

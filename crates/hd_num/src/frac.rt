@@ -53,7 +53,8 @@ impl Frac {
         requires own { unsigned_abs self.num * other.den < 2 ^ 126 }
         requires other { unsigned_abs other.num * self.den < 2 ^ 126 }
         requires dens { self.den * other.den < 2 ^ 127 }
-        ensures { IsFraction (sum_over_product self.num self.den other.num other.den) (self.den * other.den) result.num result.den }
+        ensures { IsFraction (sum_over_product self.num self.den other.num other.den)
+            (self.den * other.den) result.num result.den }
     {
         let first = self.num * other.den as i128;
         let second = other.num * self.den as i128;

@@ -31,7 +31,8 @@ pub fn split_words(alloc: Global, line: &[u8]) -> Result<List<Span>, Memory>
 /// The first word of a line, and the line after it, or None where the line has no word. It takes no
 /// memory.
 pub fn first_word(line: &[u8]) -> Option<(&[u8], &[u8])>
-    ensures { MatchOption result (words_of line.now ≡ []) (λ found. words_of line.now ≡ found.0.now ∷ words_of found.1.now) }
+    ensures { MatchOption result (words_of line.now ≡ [])
+        (λ found. words_of line.now ≡ found.0.now ∷ words_of found.1.now) }
 {
     let mut start = 0;
     'pieces: while start < line.len() {

@@ -216,7 +216,8 @@ module _ (m : Map) (whole : IsMap m) (side : SideName) where
       ])
 
   points-counted : IsCount (IsPoint m) (length (present_heights m))
-  points-counted = count-by (Below (cell_count m.size)) (IsPoint m) (λ r. (λ b. b.0, λ point. (point, point_inside m r point))) (length (present_heights m)) (count-below (cell_count m.size) (omega arith))
+  points-counted = count-by (Below (cell_count m.size)) (IsPoint m) (λ r. (λ b. b.0, λ point. (point, point_inside m r point))) (length (present_heights m))
+      (count-below (cell_count m.size) (omega arith))
 
   abbrev heights : List ℤ
   heights = present_heights m

@@ -56,10 +56,14 @@ impl<S: Side> SidePool<S> {
         alloc: Global,
         tiles: &Tiles<G>,
     ) -> Result<bool, Memory>
-        requires { Follows (G.map tiles.now.grid) S.NAME tiles.now.tiling.side tiles.now.stamps.items self.old }
-        ensures follows { Follows (G.map tiles.now.grid) S.NAME tiles.now.tiling.side tiles.now.stamps.items self.new }
-        ensures ready { IfOk result (λ serves. IsTrue serves → IsReady (G.map tiles.now.grid) S.NAME self.new) }
-        ensures rule { IfOk result (λ serves. serves ≡ reports_by_pool (cell_count tiles.now.tiling.size) tiles.now.stamps.items self.old) }
+        requires { Follows (G.map tiles.now.grid) S.NAME tiles.now.tiling.side
+            tiles.now.stamps.items self.old }
+        ensures follows { Follows (G.map tiles.now.grid) S.NAME tiles.now.tiling.side
+            tiles.now.stamps.items self.new }
+        ensures ready { IfOk result (λ serves. IsTrue serves
+            → IsReady (G.map tiles.now.grid) S.NAME self.new) }
+        ensures rule { IfOk result (λ serves. serves
+            ≡ reports_by_pool (cell_count tiles.now.tiling.size) tiles.now.stamps.items self.old) }
         ensures let_go { IfOk result (λ serves. serves ≡ false → self.new.pool ≡ None) }
         ensures outlay { IfOk result (λ serves. self.new.outlay
             ≡ after_report (cell_count tiles.now.tiling.size) tiles.now.tiling.side tiles.now.changes tiles.now.stamps.items self.old) }
@@ -89,9 +93,12 @@ impl<S: Side> SidePool<S> {
 
     /// Tells whether a label of the side is told by its pool, and brings this up to the grid if so.
     pub fn serves_label<G: Grid>(&mut self, alloc: Global, tiles: &Tiles<G>) -> Result<bool, Memory>
-        requires { Follows (G.map tiles.now.grid) S.NAME tiles.now.tiling.side tiles.now.stamps.items self.old }
-        ensures follows { Follows (G.map tiles.now.grid) S.NAME tiles.now.tiling.side tiles.now.stamps.items self.new }
-        ensures ready { IfOk result (λ serves. IsTrue serves → IsReady (G.map tiles.now.grid) S.NAME self.new) }
+        requires { Follows (G.map tiles.now.grid) S.NAME tiles.now.tiling.side
+            tiles.now.stamps.items self.old }
+        ensures follows { Follows (G.map tiles.now.grid) S.NAME tiles.now.tiling.side
+            tiles.now.stamps.items self.new }
+        ensures ready { IfOk result (λ serves. IsTrue serves
+            → IsReady (G.map tiles.now.grid) S.NAME self.new) }
         ensures rule { IfOk result (λ serves. serves
             ≡ labels_by_pool (cell_count tiles.now.tiling.size) tiles.now.tiling.side tiles.now.changes tiles.now.stamps.items self.old) }
         ensures same { IfOk result (λ serves. serves ≡ false → self.new ≡ self.old) }
@@ -114,7 +121,10 @@ impl<S: Side> SidePool<S> {
     /// Counts the steps that the answer to a label took, where the pool did not serve. They count more where there is a pool,
     /// so that where ways are long it is seldom passed over.
     pub fn count_label<G: Grid>(&mut self, tiles: &Tiles<G>, steps: u64)
-        ensures { self.new ≡ record self.old { outlay = counted tiles.now.changes (steps_earned steps self.old) self.old.outlay } }
+        ensures { self.new ≡ record self.old {
+          outlay = counted tiles.now.changes
+              (steps_earned steps self.old) self.old.outlay;
+        } }
     {
         let earned = if self.pool.is_some() {
             steps.saturating_mul(BESIDE_POOL)
@@ -127,7 +137,9 @@ impl<S: Side> SidePool<S> {
     // How many points the pool takes in where it is brought up.
     fn points_to_take<G: Grid>(&self, tiles: &Tiles<G>) -> u64
         ensures few { result < 2 ^ 56 }
-        ensures value { result ≡ points_to_take (cell_count tiles.now.tiling.size) tiles.now.tiling.side tiles.now.stamps.items self.now }
+        ensures value { result ≡ points_to_take
+            (cell_count tiles.now.tiling.size) tiles.now.tiling.side tiles.now.stamps.items
+            self.now }
     {
         if self.pool.is_none() {
             return points_of(tiles);
@@ -138,8 +150,10 @@ impl<S: Side> SidePool<S> {
 
     // Brings the pool up to the grid, and makes it first where there is none.
     fn bring_up<G: Grid>(&mut self, alloc: Global, tiles: &Tiles<G>) -> Result<(), Memory>
-        requires { Follows (G.map tiles.now.grid) S.NAME tiles.now.tiling.side tiles.now.stamps.items self.old }
-        ensures follows { Follows (G.map tiles.now.grid) S.NAME tiles.now.tiling.side tiles.now.stamps.items self.new }
+        requires { Follows (G.map tiles.now.grid) S.NAME tiles.now.tiling.side
+            tiles.now.stamps.items self.old }
+        ensures follows { Follows (G.map tiles.now.grid) S.NAME tiles.now.tiling.side
+            tiles.now.stamps.items self.new }
         ensures ready { OnOk result (IsReady (G.map tiles.now.grid) S.NAME self.new) }
         ensures outlay { OnOk result (self.new.outlay ≡ paid tiles.now.changes
             (points_to_take (cell_count tiles.now.tiling.size) tiles.now.tiling.side tiles.now.stamps.items self.old) self.old.outlay) }
@@ -161,7 +175,8 @@ impl<S: Side> SidePool<S> {
         requires ready { IsReady (G.map _grid.now) S.NAME self.now }
         requires present { Present (G.map _grid.now) at }
         ensures present { Present (G.map _grid.now) result }
-        ensures root { IsRoot (G.map _grid.now) S.NAME (rank (G.map _grid.now) at) (rank (G.map _grid.now) result) }
+        ensures root { IsRoot (G.map _grid.now) S.NAME (rank (G.map _grid.now) at)
+            (rank (G.map _grid.now) result) }
     {
         match &self.pool {
             Some(pool) => root_by::<S, G>(_grid, pool, at),
@@ -190,7 +205,8 @@ fn root_by<S: Side, G: Heights>(_grid: &G, pool: &Basins<S>, at: Pos) -> Pos
     requires pool { IsPoolOf (G.map _grid.now) S.NAME pool.now }
     requires present { Present (G.map _grid.now) at }
     ensures present { Present (G.map _grid.now) result }
-    ensures root { IsRoot (G.map _grid.now) S.NAME (rank (G.map _grid.now) at) (rank (G.map _grid.now) result) }
+    ensures root { IsRoot (G.map _grid.now) S.NAME (rank (G.map _grid.now) at)
+        (rank (G.map _grid.now) result) }
 {
     match pool.label(at) {
         Some(pit) => pit,
@@ -209,7 +225,8 @@ fn points_of<G: Grid>(tiles: &Tiles<G>) -> u64
 
 // A pool for a grid that has seen no tile.
 fn new_pool<S: Side, G: Grid>(alloc: Global, tiles: &Tiles<G>) -> Result<Basins<S>, Memory>
-    ensures { IfOk result (IsFollowing (G.map tiles.now.grid) S.NAME tiles.now.tiling.side tiles.now.stamps.items) }
+    ensures { IfOk result (IsFollowing (G.map tiles.now.grid) S.NAME tiles.now.tiling.side
+        tiles.now.stamps.items) }
 {
     let tiling = tiles.tiling();
     let pool = Basins::new(alloc, tiling.size(), tiling.side())?;
@@ -225,8 +242,10 @@ fn refresh<S: Side, G: Grid, L: Ledger>(
     requires name { blank.name ≡ L.name }
     requires parts { blank.parts ≡ L.parts }
     requires one { blank.parts ≡ 1 }
-    requires following { IsFollowing (G.map tiles.now.grid) S.NAME tiles.now.tiling.side tiles.now.stamps.items pool.old }
-    ensures following { IsFollowing (G.map tiles.now.grid) S.NAME tiles.now.tiling.side tiles.now.stamps.items pool.new }
+    requires following { IsFollowing (G.map tiles.now.grid) S.NAME tiles.now.tiling.side
+        tiles.now.stamps.items pool.old }
+    ensures following { IsFollowing (G.map tiles.now.grid) S.NAME tiles.now.tiling.side
+        tiles.now.stamps.items pool.new }
     ensures pool { OnOk result (IsPoolOf (G.map tiles.now.grid) S.NAME pool.new) }
 {
     let mut looks: Steps<L> = Steps::new(blank);

@@ -67,7 +67,8 @@ module _ (stays : Type 0) (s : Saving) (out : List ℕ) (old mid new : Option (L
 module _ (words : List (List ℕ)) (surface script : List ℕ) (failed stays : Type 0) (s : Saving) where
   -- the outcome is a text, which is written whole or cut short
   text_ends : (text : List ℕ) (wanted status : Status) (old mid new : Option (List ℕ)) (flushed : Bool) (faults : Count) → Keeps old mid → IsTheOutcome words surface script (tells wanted text) → stays
-      → (Completes words surface script stays s wanted old new → EndsAs words surface script failed stays s wanted old new) → Finishes text wanted status mid new flushed faults → EndsAs words surface script failed stays s status old new
+      → (Completes words surface script stays s wanted old new → EndsAs words surface script failed stays s wanted old new) → Finishes text wanted status mid new flushed faults
+      → EndsAs words surface script failed stays s status old new
   text_ends text wanted status old mid new flushed faults before the kept same finish = elim finish [
     | inl w ↦ subst (λ t. EndsAs words surface script failed stays s t old new) (sym w.status_is) (same (tells wanted text, the, refl, kept_text old mid new text before w.written, kept))
     | inr cut ↦ subst (λ t. EndsAs words surface script failed stays s t old new) (sym cut.status_is) (inr (inl (tells wanted text, the, (kept, kept_start old mid new text before cut.written))))
@@ -92,7 +93,8 @@ module _ (words : List (List ℕ)) (surface script : List ℕ) (failed stays : T
     the_outcome o is only = record { is = subst (AtForm o) (sym named) is; only = λ other h. only other (subst (AtForm other) named h) }
 
     -- the status of a refusal asks for all of the output
-    refused_as : (refusal : Refusal) (old new : Option (List ℕ)) → Completes words surface script stays s (refusal_status refusal) old new → EndsAs words surface script failed stays s (refusal_status refusal) old new
+    refused_as : (refusal : Refusal) (old new : Option (List ℕ)) → Completes words surface script stays s (refusal_status refusal) old new
+        → EndsAs words surface script failed stays s (refusal_status refusal) old new
     refused_as SurfaceTooLong old new h = h
     refused_as (Surface error) old new h = h
     refused_as SecondTooLong old new h = h
@@ -117,7 +119,8 @@ module _ (words : List (List ℕ)) (surface script : List ℕ) (failed stays : T
 
       -- what `out` and `saved` hold at the end, from what the run came to
       pub EndsAs-run : (result : Result Bool Stop) (status : Status) (old mid new : Option (List ℕ)) (flushed : Bool) (faults : Count) → (result ≡ Err stop.ReadFault → failed)
-          → ((why : Stop) → result ≡ Err why → why ≢ stop.WriteFault → stays) → IsWork Is Begins stays s result old mid → EndsRun result status mid new flushed faults → EndsAs words surface script failed stays s status old new
+          → ((why : Stop) → result ≡ Err why → why ≢ stop.WriteFault → stays) → IsWork Is Begins stays s result old mid → EndsRun result status mid new flushed faults
+          → EndsAs words surface script failed stays s status old new
       EndsAs-run (Ok true) status old mid new flushed faults cause unsaved run finish = answered_ends true status old mid new flushed faults run (λ h. h) finish
       EndsAs-run (Ok false) status old mid new flushed faults cause unsaved run finish = answered_ends false status old mid new flushed faults run (λ h. h) finish
       EndsAs-run (Err stop.Memory) status old mid new flushed faults cause unsaved run end =
@@ -129,11 +132,14 @@ module _ (words : List (List ℕ)) (surface script : List ℕ) (failed stays : T
             ],
           )
       EndsAs-run (Err stop.WriteFault) status old mid new flushed faults cause unsaved (inl (kept, text, begun, part)) end =
-          subst (λ t. EndsAs words surface script failed stays s t old new) (sym end.status_is) (inl (kept, inl (text, (request, named, few text begun), AppendsPart-kept old mid new text part end.kept)))
+          subst (λ t. EndsAs words surface script failed stays s t old new) (sym end.status_is)
+          (inl (kept, inl (text, (request, named, few text begun), AppendsPart-kept old mid new text part end.kept)))
       EndsAs-run (Err stop.WriteFault) status old mid new flushed faults cause unsaved (inr (work, the, inl (text, is, some, written))) end =
-          subst (λ t. EndsAs words surface script failed stays s t old new) (sym end.status_is) (inr (inr (outcome_of (Ok work), text, the_run (Ok work) the, is, some, Appends-kept old mid new work.out written end.kept)))
+          subst (λ t. EndsAs words surface script failed stays s t old new) (sym end.status_is)
+          (inr (inr (outcome_of (Ok work), text, the_run (Ok work) the, is, some, Appends-kept old mid new work.out written end.kept)))
       EndsAs-run (Err stop.WriteFault) status old mid new flushed faults cause unsaved (inr (work, the, inr cut)) end =
-          subst (λ t. EndsAs words surface script failed stays s t old new) (sym end.status_is) (inr (inl (outcome_of (Ok work), the_run (Ok work) the, cut_kept stays s work.out old mid new work.saved cut end.kept)))
+          subst (λ t. EndsAs words surface script failed stays s t old new) (sym end.status_is)
+          (inr (inl (outcome_of (Ok work), the_run (Ok work) the, cut_kept stays s work.out old mid new work.saved cut end.kept)))
       EndsAs-run (Err stop.ReadFault) status old mid new flushed faults cause unsaved kept finish =
           let still = unsaved stop.ReadFault refl (λ e. cc) in
           elim finish [
@@ -148,7 +154,8 @@ module _ (words : List (List ℕ)) (surface script : List ℕ) (failed stays : T
           ]
 
   -- what they hold at the end of a demo
-  pub EndsAs-demo : (demo : Demo) (status : Status) (old new : Option (List ℕ)) (flushed : Bool) (faults : Count) → form_of words ≡ Some (Demonstrate demo) → stays → EndsDemo demo status old new flushed faults
+  pub EndsAs-demo : (demo : Demo) (status : Status) (old new : Option (List ℕ)) (flushed : Bool) (faults : Count) → form_of words ≡ Some (Demonstrate demo) → stays
+      → EndsDemo demo status old new flushed faults
       → EndsAs words surface script failed stays s status old new
   EndsAs-demo demo status old new flushed faults named kept (inl stop) = subst (λ t. EndsAs words surface script failed stays s t old new) (sym stop.status_is) (kept, inl stop.kept)
   EndsAs-demo demo status old new flushed faults named kept (inr (text, the, finish)) =
@@ -200,7 +207,8 @@ module _ (status : Status) (old mid new : Option (List ℕ)) (flushed : Bool) wh
   ]
 
   -- the line of a read fault is written where the status is that
-  pub EndsRun-read_fault : (result : Result Bool Stop) (faults : Count) → EndsRun result status mid new flushed faults → (result ≡ Err stop.ReadFault → Keeps old mid) → status ≡ ReadFault → Appends old new read_fault_text
+  pub EndsRun-read_fault : (result : Result Bool Stop) (faults : Count) → EndsRun result status mid new flushed faults → (result ≡ Err stop.ReadFault → Keeps old mid)
+      → status ≡ ReadFault → Appends old new read_fault_text
   EndsRun-read_fault (Ok true) faults end kept is = absurd (let e = (finished [] (status_of true) status mid new flushed faults end (λ w. cc)).0 in cc)
   EndsRun-read_fault (Ok false) faults end kept is = absurd (let e = (finished [] (status_of false) status mid new flushed faults end (λ w. cc)).0 in cc)
   EndsRun-read_fault (Err stop.Memory) faults end kept is = absurd (let e = end.status_is in cc)
@@ -229,7 +237,8 @@ module _ (surface script saved : Count) (before mid now : ℕ) (status : Status)
   ]
 
   -- why a status comes, from why the run stopped
-  pub EndsRun-cause : (result : Result Bool Stop) → HasRunStop surface script (record { before = before; now = mid }) saved result → EndsRun result status old new flushed (record { before = mid; now = now })
+  pub EndsRun-cause : (result : Result Bool Stop) → HasRunStop surface script (record { before = before; now = mid }) saved result
+      → EndsRun result status old new flushed (record { before = mid; now = now })
       → HasStatusCause status surface script (record { before = before; now = now }) saved
   EndsRun-cause (Ok true) run end = finish_cause [] (status_of true) (λ e. cc) (λ e. cc) (run.other (λ e. cc) (λ e. cc)) end
   EndsRun-cause (Ok false) run end = finish_cause [] (status_of false) (λ e. cc) (λ e. cc) (run.other (λ e. cc) (λ e. cc)) end
@@ -262,7 +271,8 @@ module _ (surface script saved : Count) (before mid now : ℕ) (status : Status)
 
 -- a run that ends with neither of the two statuses of all lines, nor with a write fault, stopped for another cause
 module _ (status : Status) (old new : Option (List ℕ)) (flushed : Bool) (faults : Count) where
-  stopped_early : {P : Type 0} (result : Result Bool Stop) → ((why : Stop) → result ≡ Err why → why ≢ stop.WriteFault → P) → EndsRun result status old new flushed faults → status ≢ Done → status ≢ LineRefused → status ≢ WriteFault → P
+  stopped_early : {P : Type 0} (result : Result Bool Stop) → ((why : Stop) → result ≡ Err why → why ≢ stop.WriteFault → P) → EndsRun result status old new flushed faults
+      → status ≢ Done → status ≢ LineRefused → status ≢ WriteFault → P
   stopped_early (Ok true) known end a b d = absurd (a (finished [] (status_of true) status old new flushed faults end d).0)
   stopped_early (Ok false) known end a b d = absurd (b (finished [] (status_of false) status old new flushed faults end d).0)
   stopped_early (Err stop.WriteFault) known end a b d = absurd (d end.status_is)
@@ -288,7 +298,8 @@ module _ (status : Status) (old new : Option (List ℕ)) (flushed : Bool) (fault
   ]
 
   -- a run that ends as one that refuses the surface refused it
-  pub EndsRun-unread : {P : Type 0} (result : Result Bool Stop) → ((refusal : Refusal) → result ≡ Err (stop.Refused refusal) → IsOfSurface refusal → P) → EndsRun result status old new flushed faults → status ≡ SurfaceRefused → P
+  pub EndsRun-unread : {P : Type 0} (result : Result Bool Stop) → ((refusal : Refusal) → result ≡ Err (stop.Refused refusal) → IsOfSurface refusal → P)
+      → EndsRun result status old new flushed faults → status ≡ SurfaceRefused → P
   EndsRun-unread (Ok true) known end is = absurd (let e = (finished [] (status_of true) status old new flushed faults end (λ w. cc)).0 in cc)
   EndsRun-unread (Ok false) known end is = absurd (let e = (finished [] (status_of false) status old new flushed faults end (λ w. cc)).0 in cc)
   EndsRun-unread (Err stop.Memory) known end is = absurd (let e = end.status_is in cc)
@@ -300,11 +311,14 @@ module _ (status : Status) (old new : Option (List ℕ)) (flushed : Bool) (fault
   ]
 
   fault_count : (result : Result Bool Stop) → result ≡ Err stop.WriteFault → EndsRun result status old new flushed faults → Stays faults
-  fault_count result is end = let stopped : EndsRun (Err stop.WriteFault) status old new flushed faults = subst (λ (r : Result Bool Stop). EndsRun r status old new flushed faults) is end in stopped.count
+  fault_count result is end = let stopped : EndsRun (Err stop.WriteFault) status old new flushed faults = subst
+      (λ (r : Result Bool Stop). EndsRun r status old new flushed faults) is end in stopped.count
 
 -- when `saved` is touched, from when the run touches it
-pub EndsRun-saves : (form : Option Request) (request : Request) (result : Result Bool Stop) (status : Status) (stays : Type 0) (surface script : Count) (before mid now : ℕ) (s : Saving) (old new : Option (List ℕ)) (flushed : Bool)
-    → form ≡ Some request → SavesLast (save_name request) result stays surface script (record { before = before; now = mid }) s → EndsRun result status old new flushed (record { before = mid; now = now })
+pub EndsRun-saves : (form : Option Request) (request : Request) (result : Result Bool Stop) (status : Status) (stays : Type 0) (surface script : Count) (before mid now : ℕ)
+    (s : Saving) (old new : Option (List ℕ)) (flushed : Bool)
+    → form ≡ Some request → SavesLast (save_name request) result stays surface script (record { before = before; now = mid }) s
+    → EndsRun result status old new flushed (record { before = mid; now = now })
     → SavesInTurn form status stays surface script (record { before = before; now = now }) s
 EndsRun-saves form request result status stays surface script before mid now s old new flushed named last end =
     let faults : Count = record { before = mid; now = now } in record {
@@ -317,7 +331,8 @@ EndsRun-saves form request result status stays surface script before mid now s o
     }
 
 -- words that name no file to save save nothing
-pub SavesInTurn-unnamed : (form : Option Request) (status : Status) (stays : Type 0) (surface script out : Count) (s : Saving) → ((request : Request) → form ≡ Some request → save_name request ≡ None) → stays → Stays s.faults
+pub SavesInTurn-unnamed : (form : Option Request) (status : Status) (stays : Type 0) (surface script out : Count) (s : Saving)
+    → ((request : Request) → form ≡ Some request → save_name request ≡ None) → stays → Stays s.faults
     → SavesInTurn form status stays surface script out s
 SavesInTurn-unnamed form status stays surface script out s none kept count = record {
   unasked = λ _. kept;
@@ -328,10 +343,13 @@ SavesInTurn-unnamed form status stays surface script out s none kept count = rec
 }
 
 -- nor do words that have no form, and those of a request that names none
-pub SavesInTurn-unformed : (form : Option Request) (status : Status) (stays : Type 0) (surface script out : Count) (s : Saving) → form ≡ None → stays → Stays s.faults → SavesInTurn form status stays surface script out s
-SavesInTurn-unformed form status stays surface script out s none kept count = SavesInTurn-unnamed form status stays surface script out s (λ request is. absurd (form-some form request is none)) kept count
+pub SavesInTurn-unformed : (form : Option Request) (status : Status) (stays : Type 0) (surface script out : Count) (s : Saving) → form ≡ None → stays → Stays s.faults
+    → SavesInTurn form status stays surface script out s
+SavesInTurn-unformed form status stays surface script out s none kept count = SavesInTurn-unnamed form status stays surface script out s
+    (λ request is. absurd (form-some form request is none)) kept count
 
-pub SavesInTurn-request : (form : Option Request) (request : Request) (status : Status) (stays : Type 0) (surface script out : Count) (s : Saving) → form ≡ Some request → save_name request ≡ None → stays → Stays s.faults
+pub SavesInTurn-request : (form : Option Request) (request : Request) (status : Status) (stays : Type 0) (surface script out : Count) (s : Saving) → form ≡ Some request
+    → save_name request ≡ None → stays → Stays s.faults
     → SavesInTurn form status stays surface script out s
 SavesInTurn-request form request status stays surface script out s named none kept count =
     SavesInTurn-unnamed form status stays surface script out s (λ other is. subst (λ (r : Request). save_name r ≡ None) (one_form form request other named is) none) kept count
@@ -349,11 +367,13 @@ EndsRun-no_usage (Err (stop.Refused refusal)) status old new flushed faults end 
 ]
 
 -- no source is touched where the words have not their form
-pub ReadsInOrder-unformed : {S R : Type 0} (form : Option Request) (files : List ℕ → Option (List ℕ)) (surfaces : Count) (surface : S) (script : R) → form ≡ None → ReadsInOrder form files surfaces surface surface script script
+pub ReadsInOrder-unformed : {S R : Type 0} (form : Option Request) (files : List ℕ → Option (List ℕ)) (surfaces : Count) (surface : S) (script : R) → form ≡ None
+    → ReadsInOrder form files surfaces surface surface script script
 ReadsInOrder-unformed form files surfaces surface script none = record { unformed = λ e. (refl, refl); unnamed = λ request e named. (refl, refl); formed = λ request name e named. absurd (cc) }
 
 -- nor where they name no surface
-pub ReadsInOrder-unnamed : {S R : Type 0} (form : Option Request) (request : Request) (files : List ℕ → Option (List ℕ)) (surfaces : Count) (surface : S) (script : R) → form ≡ Some request → surface_name request ≡ None
+pub ReadsInOrder-unnamed : {S R : Type 0} (form : Option Request) (request : Request) (files : List ℕ → Option (List ℕ)) (surfaces : Count) (surface : S) (script : R)
+    → form ≡ Some request → surface_name request ≡ None
     → ReadsInOrder form files surfaces surface surface script script
 ReadsInOrder-unnamed form request files surfaces surface script named none = record {
   unformed = λ e. (refl, refl);
@@ -362,7 +382,8 @@ ReadsInOrder-unnamed form request files surfaces surface script named none = rec
 }
 
 -- the order of a run on a surface, where the words have the form that was found
-pub ReadsInOrder-run : {S R : Type 0} (form : Option Request) (request : Request) (name : List ℕ) (files : List ℕ → Option (List ℕ)) (surfaces : Count) (surface surface' : S) (script script' : R) → form ≡ Some request
+pub ReadsInOrder-run : {S R : Type 0} (form : Option Request) (request : Request) (name : List ℕ) (files : List ℕ → Option (List ℕ)) (surfaces : Count) (surface surface' : S)
+    (script script' : R) → form ≡ Some request
     → surface_name request ≡ Some name → SecondComesLast (second_name request) (files name) surfaces script script' → ReadsInOrder form files surfaces surface surface' script script'
 ReadsInOrder-run form request name files surfaces surface surface' script script' named surface_is order = record {
   unformed = λ none. absurd (cc);
@@ -375,11 +396,13 @@ ReadsInOrder-run form request name files surfaces surface surface' script script
 }
 
 -- no source is read
-pub ReadsWithin-unread : (form : Option Request) (surface_unread second_unread : Type 0) (surface second : Reading) → surface_unread → second_unread → ReadsWithin form surface_unread second_unread surface second
+pub ReadsWithin-unread : (form : Option Request) (surface_unread second_unread : Type 0) (surface second : Reading) → surface_unread → second_unread
+    → ReadsWithin form surface_unread second_unread surface second
 ReadsWithin-unread form surface_unread second_unread surface second first last = record { surface_within = λ request name named is. inl first; second_within = λ request name named is. inl last }
 
 -- how far the inputs of a run are read, where the words have the form that was found
-pub ReadsWithin-run : (form : Option Request) (request : Request) (name : List ℕ) (surface_unread second_unread : Type 0) (surface second : Reading) → form ≡ Some request → surface_name request ≡ Some name
+pub ReadsWithin-run : (form : Option Request) (request : Request) (name : List ℕ) (surface_unread second_unread : Type 0) (surface second : Reading) → form ≡ Some request
+    → surface_name request ≡ Some name
     → StopsWithin surface_limit name surface → ((other : List ℕ) → second_name request ≡ Some other → second_unread ⊎ StopsWithin (second_limit request) other second)
     → ReadsWithin form surface_unread second_unread surface second
 ReadsWithin-run form request name surface_unread second_unread surface second named surface_is first last = record {

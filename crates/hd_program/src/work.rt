@@ -61,7 +61,8 @@ pub fn perform<E: SurfaceSession, S: Source, R: Source, W: Sink, V: Sink>(
     ensures order { ReadsInOrder (form_of (map string_bytes words.now)) (S.files surface.old)
         (over (S.faults surface.old) (S.faults surface.new)) surface.old surface.new script.old script.new }
     ensures unread { result ≡ Status.SurfaceRefused → script.new ≡ script.old }
-    ensures within { ReadsWithin (form_of (map string_bytes words.now)) (surface.new ≡ surface.old) (script.new ≡ script.old)
+    ensures within { ReadsWithin (form_of (map string_bytes words.now)) (surface.new ≡ surface.old)
+        (script.new ≡ script.old)
         (reading (S.files surface.old) (S.left surface.old) (S.left surface.new) (over (S.faults surface.old) (S.faults surface.new)))
         (reading (R.files script.old) (R.left script.old) (R.left script.new) (over (R.faults script.old) (R.faults script.new))) }
 

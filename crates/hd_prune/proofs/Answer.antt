@@ -27,11 +27,13 @@ use Rattle.hd_prune.proofs.Leavers.{leaving-same, steps_of}
 use Rattle.hd_prune.proofs.MergesLeaving.{in-leaving}
 use Rattle.hd_prune.proofs.TakeOver.{pruned, pruning}
 
-module _ (m : Map) (whole : IsMap m) (side : SideName) (lows : List Low) (merges : List Merge) (are_pits : ArePits m side (ranks_of lows)) (are : AreMerges (below_by side) (SaddleIs m side) lows merges)
+module _ (m : Map) (whole : IsMap m) (side : SideName) (lows : List Low) (merges : List Merge) (are_pits : ArePits m side (ranks_of lows))
+    (are : AreMerges (below_by side) (SaddleIs m side) lows merges)
     (limit : Limit) (leavers : List Leaver) (in_merges : AreLeaving (below_by side) (IsLeavingIn (local_on side) (goes_at limit) lows merges) leavers) where
   -- the lows that leave at their merges are those that leave the map
   pub leaving-in : AreLeaving (below_by side) (IsLeaving m side (goes_at limit)) leavers
-  leaving-in = leaving-same (below_by side) (IsLeavingIn (local_on side) (goes_at limit) lows merges) (IsLeaving m side (goes_at limit)) leavers (in-leaving m side lows merges are_pits are (goes_at limit)) in_merges
+  leaving-in = leaving-same (below_by side) (IsLeavingIn (local_on side) (goes_at limit) lows merges) (IsLeaving m side (goes_at limit)) leavers
+      (in-leaving m side lows merges are_pits are (goes_at limit)) in_merges
 
   pub pruned-in : SzIs m limit.sz → (ys : List Step) → AreTaken m side (λ p. p) leavers ys → (kept : List Kept) → AreKeptAlone m side limit.percent.thousandths kept →
       (owners : List Owned) → owners ≡ owned_by (owner_after side (λ p. p) ys) (ranks_of lows) → IsPruned m side limit.percent.thousandths ys kept owners

@@ -40,18 +40,22 @@ at_least a b h ne = elim (nat_lt a b) as (λ v. nat_lt a b ≡ v → a < b) [
 ] refl
 
 -- different points in position order stand by rising index
-pub in_order-rises : (m : Map) (below : Rank → Rank → Bool) (order : IsStrictOrder below) (raw pits : List Rank) → AllPairs (λ p q. p ≢ q) raw → AreInOrder raw pits → ((p : Rank) → Contains pits p → IsPoint m p) → AllPairs (λ a b. a.index < b.index) pits
+pub in_order-rises : (m : Map) (below : Rank → Rank → Bool) (order : IsStrictOrder below) (raw pits : List Rank) → AllPairs (λ p q. p ≢ q) raw → AreInOrder raw pits
+    → ((p : Rank) → Contains pits p → IsPoint m p) → AllPairs (λ a b. a.index < b.index) pits
 in_order-rises m below order raw pits apart h points =
     let once = IsDistinct-IsPermutation (is_same below order) (is_same-flips below order) raw pits h.same (IsDistinct-from_AllPairs (is_same-decides below order) raw apart) in
     let differ = AllPairs-from_IsDistinct (is_same-decides below order) pits once in
     λ i j d lt len. at_least (get_or pits i d).index (get_or pits j d).index (sorted_far index_less index-order pits h.sorted i j d (omega arith) len)
-    (λ e. differ i j d lt len (same_index m (get_or pits i d) (get_or pits j d) (points (get_or pits i d) (Contains-get_or pits i d (omega arith))) (points (get_or pits j d) (Contains-get_or pits j d len)) e))
+    (λ e. differ i j d lt len (same_index m (get_or pits i d) (get_or pits j d) (points (get_or pits i d) (Contains-get_or pits i d (omega arith)))
+    (points (get_or pits j d) (Contains-get_or pits j d len)) e))
 
 -- one more owner
-pub owned-more : (owner : Rank → Rank) (lows : List Low) (i : ℕ) (d : Low) (o : Rank) (old new all : List Owned) → i < length lows → new ≡ old ++ record { pit = (get_or lows i d).rank; owner = o } ∷ [] → o ≡ owner (get_or lows i d).rank →
+pub owned-more : (owner : Rank → Rank) (lows : List Low) (i : ℕ) (d : Low) (o : Rank) (old new all : List Owned) → i < length lows
+    → new ≡ old ++ record { pit = (get_or lows i d).rank; owner = o } ∷ [] → o ≡ owner (get_or lows i d).rank →
     old ++ owned_by owner (ranks_of (drop i lows)) ≡ all → new ++ owned_by owner (ranks_of (drop (i + 1) lows)) ≡ all
 owned-more owner lows i d o old new all inside e is so =
     let x : Low = get_or lows i d in
     let one : drop i lows ≡ x ∷ drop (suc i) lows = drop-cons lows i d inside in
-    let split : owned_by owner (ranks_of (drop i lows)) ≡ record { pit = x.rank; owner = owner x.rank } ∷ owned_by owner (ranks_of (drop (suc i) lows)) = ap (λ (ls : List Low). owned_by owner (ranks_of ls)) one in
+    let split : owned_by owner (ranks_of (drop i lows)) ≡ record { pit = x.rank; owner = owner x.rank }
+    ∷ owned_by owner (ranks_of (drop (suc i) lows)) = ap (λ (ls : List Low). owned_by owner (ranks_of ls)) one in
     rw (add-one, e, is, append_assoc, ← split) so

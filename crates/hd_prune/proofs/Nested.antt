@@ -51,7 +51,8 @@ exists m side thousandths whole =
     (pruning.0, left_after (below_by side) all.0 steps.0, pruning.1, record { pits = all.0; are_pits = all.1; sz = sz.0; sz_is = sz.1; prunes = pruning.2 })
 
 -- pruning keeps exactly the pits that no pit undercuts
-pub keeps-undercut : (m : Map) (side : SideName) (thousandths : ℕ) (sz : ℤ) (xs : List Leaving) (last : List Rank) (owner : Rank → Rank) → IsMap m → IsPruning m side thousandths xs last owner → SzIs m sz →
+pub keeps-undercut : (m : Map) (side : SideName) (thousandths : ℕ) (sz : ℤ) (xs : List Leaving) (last : List Rank) (owner : Rank → Rank) → IsMap m
+    → IsPruning m side thousandths xs last owner → SzIs m sz →
     (p : Rank) → Contains last p ↔ (IsPit m side p × ((q : Rank) → Undercuts m side thousandths sz q p → ⊥))
 keeps-undercut m side thousandths sz xs last owner whole h is p =
     let pits : List Rank = h.pits in
@@ -65,14 +66,16 @@ keeps-undercut m side thousandths sz xs last owner whole h is p =
     (left-undercut m whole side thousandths sz pits is_pit laws steps.0 steps.1 p)
 
 -- and so do the kept pits of what pruning gives
-pub pruned-undercut : (m : Map) (side : SideName) (thousandths : ℕ) (sz : ℤ) (steps : List Step) (kept : List Kept) (owners : List Owned) → IsMap m → SzIs m sz → IsPruned m side thousandths steps kept owners →
+pub pruned-undercut : (m : Map) (side : SideName) (thousandths : ℕ) (sz : ℤ) (steps : List Step) (kept : List Kept) (owners : List Owned) → IsMap m → SzIs m sz
+    → IsPruned m side thousandths steps kept owners →
     AreNotUndercut m side thousandths sz kept
 pruned-undercut m side thousandths sz steps kept owners whole is h =
     subst (λ (ps : List Rank). (p : Rank) → Contains ps p ↔ (IsPit m side p × ((q : Rank) → Undercuts m side thousandths sz q p → ⊥))) (sym h.are_kept.pits)
     (keeps-undercut m side thousandths sz (leavings_of steps) h.last h.owner whole h.pruning is)
 
 -- the pits kept at the greater of two percents are all kept at the lesser
-pub nested : (m : Map) (side : SideName) (a b : ℕ) (xs ys : List Leaving) (last end : List Rank) (mine yours : Rank → Rank) → IsMap m → a ≤ b → IsPruning m side a xs last mine → IsPruning m side b ys end yours →
+pub nested : (m : Map) (side : SideName) (a b : ℕ) (xs ys : List Leaving) (last end : List Rank) (mine yours : Rank → Rank) → IsMap m → a ≤ b → IsPruning m side a xs last mine
+    → IsPruning m side b ys end yours →
     (p : Rank) → Contains end p → Contains last p
 nested m side a b xs ys last end mine yours whole le h k p at =
     let sz : ℤ = h.sz in

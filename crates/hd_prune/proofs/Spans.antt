@@ -41,7 +41,8 @@ height_in m (suc n) r point below =
           let here : n ≡ place_of m.size at = omega (arith, below, not, index) in
           let position : position_at m.size n ≡ at = ap (position_at m.size) here ∙ position_at-of m.size at point.present.in_grid in
           let height : r.height ≡ height_or_zero (cell_at m at) = ap (λ (x : Rank). x.height) point.rank_is in
-          let shown : height_at m (position_at m.size n) ≡ Some r.height = ap (height_at m) position ∙ shown_of (cell_at m at) (mask_at m at) point.present.measured point.present.shown ∙ ap Some (sym height) in
+          let shown : height_at m (position_at m.size n) ≡ Some r.height = ap (height_at m) position
+          ∙ shown_of (cell_at m at) (mask_at m at) point.present.measured point.present.shown ∙ ap Some (sym height) in
           subst (λ o. Contains (heights_below m n ++ cons_option o []) r.height) (sym shown) (Contains-push (heights_below m n) r.height)
     ]))
 
@@ -100,7 +101,8 @@ span_some m range sz whole is span =
     let of = range_is (present_heights m) range is in
     let low = point_of m (cell_count m.size) range.least whole (omega arith) of.least_in in
     let high = point_of m (cell_count m.size) range.greatest whole (omega arith) of.greatest_in in
-    let bounded : (r : Rank) → IsPoint m r → (range.least ≤ℤ r.height) × (r.height ≤ℤ range.greatest) = λ r point. of.bounds r.height (height_in m (cell_count m.size) r point (point_inside m r point)) in
+    let bounded : (r : Rank) → IsPoint m r → (range.least ≤ℤ r.height) × (r.height ≤ℤ range.greatest) = λ r point. of.bounds r.height
+    (height_in m (cell_count m.size) r point (point_inside m r point)) in
     inl (
       low.0,
       high.0,
@@ -126,7 +128,8 @@ range_heights m range whole is =
     record { least = subst IsHeight low.2 (point_height m low.0 whole low.1); greatest = subst IsHeight high.2 (point_height m high.0 whole high.1) }
 
 -- how far they are apart
-pub span_within : (m : Map) (range : HeightRange) → IsMap m → range_of (present_heights m) ≡ Some range → (pos 0 ≤ℤ (range.greatest -ℤ range.least)) × ((range.greatest -ℤ range.least) ≤ℤ pos farthest_apart)
+pub span_within : (m : Map) (range : HeightRange) → IsMap m → range_of (present_heights m) ≡ Some range → (pos 0 ≤ℤ (range.greatest -ℤ range.least))
+    × ((range.greatest -ℤ range.least) ≤ℤ pos farthest_apart)
 span_within m range whole is =
     let ends = range_heights m range whole is in
     let of = range_is (present_heights m) range is in

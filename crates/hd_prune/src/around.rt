@@ -26,7 +26,8 @@ pub trait Around {
     /// None.
     fn all_around(&self, saddle: Rank) -> [Option<(Rank, Rank)>; 9]
         requires { IsPoint (map self.now) saddle }
-        ensures { (k : ℕ) → k < 9 → IsLowerNeighbourAt (map self.now) (side self.now) saddle k (slice_index_or result k None) }
+        ensures { (k : ℕ) → k < 9 → IsLowerNeighbourAt (map self.now) (side self.now) saddle k
+            (slice_index_or result k None) }
     {
         let mut all = [None; 9];
         for k in 0..9usize {

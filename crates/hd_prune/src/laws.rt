@@ -15,14 +15,16 @@ pub fn pruning_exists()
 
 /// Pruning keeps exactly the pits that no pit undercuts.
 pub fn pruning_keeps_what_is_not_undercut()
-    ensures { (m : Map) (side : SideName) (thousandths : ℕ) (sz : ℤ) (xs : List Leaving) (last : List Rank) (owner : Rank → Rank)
+    ensures { (m : Map) (side : SideName) (thousandths : ℕ) (sz : ℤ) (xs : List Leaving)
+        (last : List Rank) (owner : Rank → Rank)
         → IsMap m → IsPruning m side thousandths xs last owner → SzIs m sz
         → (p : Rank) → Contains last p ↔ (IsPit m side p × ((q : Rank) → Undercuts m side thousandths sz q p → ⊥)) }
 {}
 
 /// The pits kept at the greater of two percents, in thousandths, are all kept at the lesser.
 pub fn pruning_is_nested()
-    ensures { (m : Map) (side : SideName) (a b : ℕ) (xs ys : List Leaving) (last end : List Rank) (mine yours : Rank → Rank)
+    ensures { (m : Map) (side : SideName) (a b : ℕ) (xs ys : List Leaving) (last end : List Rank)
+        (mine yours : Rank → Rank)
         → IsMap m → a ≤ b → IsPruning m side a xs last mine → IsPruning m side b ys end yours
         → (p : Rank) → Contains end p → Contains last p }
 {}

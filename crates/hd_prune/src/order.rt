@@ -24,7 +24,9 @@ pub fn owners<S: Side, A: Around>(
 ) -> Result<List<Owned>, Memory>
     requires pits { (p : Rank) → Contains (ranks_of lows.now) p → IsPit (A.map around.now) S.NAME p }
     requires linked { (owner : Rank → Rank) × IsLinked (A.map around.now) S.NAME owner links.old }
-    ensures { IfOk result (λ owners. (owner : Rank → Rank) → IsLinked (A.map around.now) S.NAME owner links.old → owners ≡ owned_by owner (ranks_of lows.now)) }
+    ensures { IfOk result (λ owners. (owner : Rank → Rank)
+        → IsLinked (A.map around.now) S.NAME owner links.old
+        → owners ≡ owned_by owner (ranks_of lows.now)) }
 {
     let mut owners = List::with_capacity(alloc, lows.len())?;
     for low in lows {

@@ -46,8 +46,10 @@ pub fn prune<S: Side, A: Around>(
     requires side { A.side around.now ≡ S.NAME }
     requires told { TellsSaddles (A.map around.now) S.NAME line.now }
     requires sz { SzIs (A.map around.now) sz }
-    ensures pruned { IfOk result (λ pruned. IsPruned (A.map around.now) S.NAME percent.thousandths pruned.steps pruned.kept pruned.owners) }
-    ensures undercut { IfOk result (λ pruned. AreNotUndercut (A.map around.now) S.NAME percent.thousandths sz pruned.kept) }
+    ensures pruned { IfOk result (λ pruned. IsPruned
+        (A.map around.now) S.NAME percent.thousandths pruned.steps pruned.kept pruned.owners) }
+    ensures undercut { IfOk result (λ pruned. AreNotUndercut
+        (A.map around.now) S.NAME percent.thousandths sz pruned.kept) }
 {
     let MergedPits { pits, merges } = merges_of_pits::<S>(alloc, line)?;
     prune_by_merges::<S, A>(
@@ -74,8 +76,10 @@ pub fn prune_by_merges<S: Side, A: Around>(
     requires pits { ArePits (A.map around.now) S.NAME (ranks_of lows.now) }
     requires merges { AreMerges (below_by S.NAME) (SaddleIs (A.map around.now) S.NAME) lows.now merges.now }
     requires sz { SzIs (A.map around.now) sz }
-    ensures pruned { IfOk result (λ pruned. IsPruned (A.map around.now) S.NAME percent.thousandths pruned.steps pruned.kept pruned.owners) }
-    ensures undercut { IfOk result (λ pruned. AreNotUndercut (A.map around.now) S.NAME percent.thousandths sz pruned.kept) }
+    ensures pruned { IfOk result (λ pruned. IsPruned
+        (A.map around.now) S.NAME percent.thousandths pruned.steps pruned.kept pruned.owners) }
+    ensures undercut { IfOk result (λ pruned. AreNotUndercut
+        (A.map around.now) S.NAME percent.thousandths sz pruned.kept) }
 {
     let leavers = steps::<S>(alloc, lows, merges, &Limit { percent, sz })?;
     let mut taken = take_over::<S, A>(alloc, around, &leavers)?;

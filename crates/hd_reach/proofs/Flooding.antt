@@ -1,7 +1,8 @@
 -- A flood, entry by entry.
 use Rattle.std.proofs.Common.{◌≡◌, ◌<◌, ◌≤◌, ◌+◌, ◌*◌, ◌%◌, ◌/◌, ℕ, zero, suc, List, [], ◌∷◌, ◌++◌, length, get_or, set, replicate, Option, Some, None, ◌⊎◌, inl, inr, ap, ◌∙◌, refl, sym, subst, arith}
 use Rattle.std.proofs.Math.ListN.{length-set}
-use Rattle.std.proofs.lemmas.List.{get_or-set_same, get_or-set_other, get_or_append_left, get_or_push, length_push, length-append, append_assoc, get_or-replicate, length-replicate, length-map, get_or-map, map-append}
+use Rattle.std.proofs.lemmas.List.{get_or-set_same, get_or-set_other, get_or_append_left, get_or_push, length_push, length-append, append_assoc}
+use Rattle.std.proofs.lemmas.List.{get_or-replicate, length-replicate, length-map, get_or-map, map-append}
 use Rattle.std.proofs.lemmas.List.Sums.{sum_by-set}
 use Rattle.std.proofs.lemmas.List.Folds.{sum_by-replicate}
 use Rattle.std.proofs.lemmas.Bool.{cases_lt, cases_eq}
@@ -101,11 +102,18 @@ module _ (m : Map) (IsOpen : Pos → Type 0) (start : Pos) where
         whole = length-set steps (place_of m.size at) (Some n) ∙ f.whole;
         start_inside = f.start_inside;
         begun = more start 0 f.start_inside f.begun;
-        room = (let sum = sum_by-set is_free steps (place_of m.size at) (Some n) None inside in let free' : is_free (get_or steps (place_of m.size at) None) ≡ 1 = ap is_free free in omega (arith, sum, free', longer, f.room));
+        room = (let sum = sum_by-set is_free steps (place_of m.size at) (Some n) None inside in let free' : is_free (get_or steps (place_of m.size at) None)
+            ≡ 1 = ap is_free free in omega (arith, sum, free', longer, f.room));
         entries = λ k h. elim (cases_lt k (length queue)) [
           | inl less ↦
               let was = f.entries k less in
-              rw (old k less) (record { present = was.present; is_open = was.is_open; noted = more (entry_of queue k).at (entry_of queue k).steps was.present.in_grid was.noted; few = was.few; walk = was.walk })
+              rw (old k less) (record {
+                present = was.present;
+                is_open = was.is_open;
+                noted = more (entry_of queue k).at (entry_of queue k).steps was.present.in_grid was.noted;
+                few = was.few;
+                walk = was.walk;
+              })
           | inr last ↦
               let is : length queue ≡ k = omega (arith, longer) in
               let few = first.few in
@@ -121,7 +129,13 @@ module _ (m : Map) (IsOpen : Pos → Type 0) (start : Pos) where
           | inl was ↦
               let h = f.queued p there k was in
               let h' = h.inside in
-              record { place = h.place; inside = omega (arith, longer, h'); at_is = ap (λ (r : Reached). r.at) (old h.place h') ∙ h.at_is; steps_is = ap (λ (r : Reached). r.steps) (old h.place h') ∙ h.steps_is }
+              record {
+                place = h.place;
+                inside = omega (arith, longer, h');
+                at_is = ap (λ (r : Reached). r.at) (old h.place h')
+                    ∙ h.at_is;
+                steps_is = ap (λ (r : Reached). r.steps) (old h.place h') ∙ h.steps_is;
+              }
           | inr is ↦ record {
             place = length queue;
             inside = omega (arith, longer);
@@ -160,7 +174,8 @@ module _ (m : Map) (IsOpen : Pos → Type 0) (start : Pos) where
         | inl same ↦
             let inside : i < length marks = rw whole (place_inside m.size at here) in
             let inside' : i < length steps = rw whole' (place_inside m.size at here) in
-            let now : get_or (set marks i (mark_in how n)) j how.blank ≡ mark_in how n = ap (λ l. get_or (set marks i (mark_in how n)) l how.blank) same ∙ get_or-set_same marks i (mark_in how n) how.blank inside in
+            let now : get_or (set marks i (mark_in how n)) j how.blank ≡ mark_in how n = ap (λ l. get_or (set marks i (mark_in how n)) l how.blank) same
+            ∙ get_or-set_same marks i (mark_in how n) how.blank inside in
             let noted : get_or (set steps i (Some n)) j None ≡ Some n = ap (λ l. get_or (set steps i (Some n)) l None) same ∙ get_or-set_same steps i (Some n) None inside' in
             now ∙ sym (ap (marked how old) noted)
         | inr other ↦ get_or-set_other marks i j (mark_in how n) how.blank other ∙ read p there ∙ ap (marked how old) (sym (get_or-set_other steps i j (Some n) None other))
@@ -185,7 +200,8 @@ module _ (m : Map) (IsOpen : Pos → Type 0) (start : Pos) where
       by_number x x' y y' e = (omega (arith, x, x', y, y', e, below), omega (arith, x, x', y, y', e, below))
 
   -- an open position round the head that is not noted is its neighbour
-  beside_head : ((p : Pos) → IsOpen p → Present m p) → (steps : List (Option ℕ)) (queue : List Reached) (head : ℕ) (q : Pos) (step : ℕ) → step < 9 → IsFlood m IsOpen start steps queue head → head < length queue
+  beside_head : ((p : Pos) → IsOpen p → Present m p) → (steps : List (Option ℕ)) (queue : List Reached) (head : ℕ) (q : Pos) (step : ℕ) → step < 9
+      → IsFlood m IsOpen start steps queue head → head < length queue
       → IsAtStep (entry_of queue head).at step q → AreBesideUnder m.adjacency (entry_of queue head).at q → IsOpen q → steps_at m.size steps q ≡ None → Neighbour m (entry_of queue head).at q
   beside_head open_present steps queue head q step below f begun at beside is_open free =
       let e = f.entries head begun in
@@ -267,7 +283,8 @@ module _ (m : Map) (IsOpen : Pos → Type 0) (start : Pos) where
       ]
 
   -- there are fewer steps than points
-  flood_few : (steps : List (Option ℕ)) (queue : List Reached) (head : ℕ) → IsFlood m IsOpen start steps queue head → (p : Pos) → InGrid m.size p → (n : ℕ) → steps_at m.size steps p ≡ Some n → n < cell_count m.size
+  flood_few : (steps : List (Option ℕ)) (queue : List Reached) (head : ℕ) → IsFlood m IsOpen start steps queue head → (p : Pos) → InGrid m.size p → (n : ℕ)
+      → steps_at m.size steps p ≡ Some n → n < cell_count m.size
   flood_few steps queue head f p there n noted =
       let h = f.queued p there n noted in
       let inside = h.inside in
@@ -335,7 +352,8 @@ module _ (m : Map) (IsOpen : Pos → Type 0) (start : Pos) where
     -- the middle of the nine is the point itself
     pub IsRound-centre : (here : Pos) (n : ℕ) (marks : List V) (places : List ℕ) (head step : ℕ) → step ≡ 4 → IsRound here n marks places head step → IsRound here n marks places head (step + 1)
     IsRound-centre here n marks places head step centre =
-        round_past here n marks places head step (omega (arith, centre)) (λ q near at. (let x = at.0 in let y = at.1 in near.different (same_pos here q (omega (arith, x, centre)) (omega (arith, y, centre)))))
+        round_past here n marks places head step (omega (arith, centre)) (λ q near at.
+        (let x = at.0 in let y = at.1 in near.different (same_pos here q (omega (arith, x, centre)) (omega (arith, y, centre)))))
 
     -- all steps were made
     pub IsRound-end : (here : Pos) (n : ℕ) (marks : List V) (places : List ℕ) (head step : ℕ) → 9 ≤ step → IsRound here n marks places head step → IsFlooding m IsOpen start how marks places (head + 1)
@@ -376,7 +394,8 @@ module _ (m : Map) (IsOpen : Pos → Type 0) (start : Pos) where
     queue_long : (marks : List V) (places : List ℕ) (head : ℕ) (f : IsFlooding m IsOpen start how marks places head) → length places ≡ length f.queue
     queue_long marks places head f = ap length f.places_are ∙ length-map f.queue (λ (e : Reached). place_of m.size e.at)
 
-    queue_read : (marks : List V) (places : List ℕ) (head : ℕ) (f : IsFlooding m IsOpen start how marks places head) → (k : ℕ) → k < length f.queue → get_or places k 0 ≡ place_of m.size (entry_of f.queue k).at
+    queue_read : (marks : List V) (places : List ℕ) (head : ℕ) (f : IsFlooding m IsOpen start how marks places head) → (k : ℕ) → k < length f.queue
+        → get_or places k 0 ≡ place_of m.size (entry_of f.queue k).at
     queue_read marks places head f k inside = ap (λ (ps : List ℕ). get_or ps k 0) f.places_are ∙ get_or-map (λ (e : Reached). place_of m.size e.at) f.queue k no_entry 0 inside
 
     -- the entry at the head of a flood is of the point at the head of its queue
@@ -405,7 +424,8 @@ module _ (m : Map) (IsOpen : Pos → Type 0) (start : Pos) where
         )
 
     -- the start is marked and queued
-    pub IsFlooding-begin : (marks : List V) → marks ≡ how.before → length marks ≡ cell_count m.size → Present m start → IsOpen start → IsFlooding m IsOpen start how (set marks (place_of m.size start) how.first) (place_of m.size start ∷ []) 0
+    pub IsFlooding-begin : (marks : List V) → marks ≡ how.before → length marks ≡ cell_count m.size → Present m start → IsOpen start
+        → IsFlooding m IsOpen start how (set marks (place_of m.size start) how.first) (place_of m.size start ∷ []) 0
     IsFlooding-begin marks same whole present is_open =
         let none : List (Option ℕ) = replicate (cell_count m.size) None in
         let unnoted : (p : Pos) → InGrid m.size p → steps_at m.size none p ≡ None = λ p there. get_or-replicate (cell_count m.size) (place_of m.size p) None None (place_inside m.size p there) in
@@ -420,13 +440,15 @@ module _ (m : Map) (IsOpen : Pos → Type 0) (start : Pos) where
         }
 
     -- the marks, where all entries were at the head
-    pub IsFlooding-end : (marks : List V) (places : List ℕ) (head : ℕ) → IsFlooding m IsOpen start how marks places head → length places ≤ head → (goal : Option Pos) → AreMarked m IsOpen start goal how marks
+    pub IsFlooding-end : (marks : List V) (places : List ℕ) (head : ℕ) → IsFlooding m IsOpen start how marks places head → length places ≤ head → (goal : Option Pos)
+        → AreMarked m IsOpen start goal how marks
     IsFlooding-end marks places head f done goal =
         let long = queue_long marks places head f in
         record { steps = f.steps; are = flood_end f.steps f.queue head goal f.flood (λ n want k inside few. omega (arith, inside, done, long)); whole = f.whole; read = f.read }
 
     -- and where the goal is at the head
-    pub IsFlooding-stop : (marks : List V) (places : List ℕ) (head : ℕ) → IsFlooding m IsOpen start how marks places head → (here : Pos) → IsAtHead m.size places head here → (goal : Option Pos) → goal ≡ Some here
+    pub IsFlooding-stop : (marks : List V) (places : List ℕ) (head : ℕ) → IsFlooding m IsOpen start how marks places head → (here : Pos) → IsAtHead m.size places head here
+        → (goal : Option Pos) → goal ≡ Some here
         → AreMarked m IsOpen start goal how marks
     IsFlooding-stop marks places head f here at goal is =
         let first = head_entry marks places head f here at in
@@ -457,7 +479,8 @@ module _ (m : Map) (IsOpen : Pos → Type 0) (start : Pos) where
         rw (queue_read marks places head f k inside') (place_inside m.size (entry_of f.queue k).at (f.flood.entries k inside').present.in_grid)
 
     -- the index at the head of what is left is in the grid
-    pub IsFlooding-next : (marks : List V) (passed left rest : List ℕ) (index : ℕ) → left ≡ index ∷ rest → IsFlooding m IsOpen start how marks (passed ++ left) (length passed) → index < cell_count m.size
+    pub IsFlooding-next : (marks : List V) (passed left rest : List ℕ) (index : ℕ) → left ≡ index ∷ rest → IsFlooding m IsOpen start how marks (passed ++ left) (length passed)
+        → index < cell_count m.size
     IsFlooding-next marks passed left rest index is f =
         let front : List ℕ = passed ++ index ∷ [] in
         let same : passed ++ left ≡ front ++ rest = ap (λ xs. passed ++ xs) is ∙ sym (append_assoc passed (index ∷ []) rest) in
@@ -480,7 +503,8 @@ module _ (m : Map) (IsOpen : Pos → Type 0) (start : Pos) where
     mark_none (suc n) e = mark_none n (w.marks (mark_in how n) e)
 
     -- what is reached, and has no mark of another flood, has steps
-    free_at : (marks : List V) (places : List ℕ) (head : ℕ) (at : Pos) (f : IsFlooding m IsOpen start how marks places head) → InGrid m.size at → mark_at how.blank m.size marks at ≡ how.blank → steps_at m.size f.steps at ≡ None
+    free_at : (marks : List V) (places : List ℕ) (head : ℕ) (at : Pos) (f : IsFlooding m IsOpen start how marks places head) → InGrid m.size at
+        → mark_at how.blank m.size marks at ≡ how.blank → steps_at m.size f.steps at ≡ None
     free_at marks places head at f there blank = elim (Option-some_or_none (steps_at m.size f.steps at)) [
       | inl some ↦ absurd (mark_none some.0 (sym (f.read at there ∙ ap (marked how (mark_at how.blank m.size how.before at)) some.1) ∙ blank))
       | inr none ↦ none
@@ -503,7 +527,8 @@ module _ (m : Map) (IsOpen : Pos → Type 0) (start : Pos) where
             (some.0, omega (arith, low, is, count), some.1)
         | inr none ↦
             let first = f.flood.entries head begun in
-            let step : OpenStep m IsOpen at (entry_of f.queue head).at = OpenStep-turned m IsOpen (entry_of f.queue head).at at (record { neighbour = beside is_open none; from = first.is_open; to = is_open }) in
+            let step : OpenStep m IsOpen at (entry_of f.queue head).at = OpenStep-turned m IsOpen (entry_of f.queue head).at at
+            (record { neighbour = beside is_open none; from = first.is_open; to = is_open }) in
             let before = w.free at ((entry_of f.queue head).at ∷ first.walk.0) (step, first.walk.1) in
             absurd (elim why [ inl closed ↦ closed is_open | inr reached ↦ reached (f.read at inside ∙ ap (marked how (mark_at how.blank m.size how.before at)) none ∙ before) ])
       ];
@@ -532,7 +557,8 @@ module _ (m : Map) (IsOpen : Pos → Type 0) (start : Pos) where
           found = λ _. (n, omega arith, get_or-set_same steps (place_of m.size at) (Some n) None inside);
         }
 
-    goes_on : (marks : List V) (places : List ℕ) (head : ℕ) (at : Pos) (n : ℕ) (mark : V) (marks' : List V) (places' : List ℕ) (f : IsFlooding m IsOpen start how marks places head) → head < length f.queue → InGrid m.size at
+    goes_on : (marks : List V) (places : List ℕ) (head : ℕ) (at : Pos) (n : ℕ) (mark : V) (marks' : List V) (places' : List ℕ) (f : IsFlooding m IsOpen start how marks places head)
+        → head < length f.queue → InGrid m.size at
         → (IsOpen at → steps_at m.size f.steps at ≡ None → Neighbour m (entry_of f.queue head).at at) → (entry_of f.queue head).steps + 1 ≡ n → mark ≡ mark_in how n
         → Reaches m.size IsOpen how.blank at mark marks places marks' places' → GoesOn how f.steps (entry_of f.queue head) head at n marks' places'
     goes_on marks places head at n mark marks' places' f begun there beside count mark_is reaches = elim reaches [
@@ -543,7 +569,8 @@ module _ (m : Map) (IsOpen : Pos → Type 0) (start : Pos) where
     ]
 
     pub IsRound-more : ((p : Pos) → IsOpen p → Present m p) → (here : Pos) (n : ℕ) (mark : V) {marks : List V} {places : List ℕ} {head : ℕ} (step : ℕ) (marks' : List V) (places' : List ℕ)
-        → mark ≡ mark_in how (n + 1) → step < 9 → ReachesAt m IsOpen how.blank here (step % 3) (step / 3) mark marks places marks' places' → IsRound how here n marks places head step → IsRound how here n marks' places' head (step + 1)
+        → mark ≡ mark_in how (n + 1) → step < 9 → ReachesAt m IsOpen how.blank here (step % 3) (step / 3) mark marks places marks' places'
+        → IsRound how here n marks places head step → IsRound how here n marks' places' head (step + 1)
     IsRound-more open_present here n mark {marks} {places} {head} step marks' places' mark_is below reaches r = elim reaches [
       | inl (p, x, y, there, beside, one) ↦
           let queue = r.flooding.queue in
@@ -552,7 +579,8 @@ module _ (m : Map) (IsOpen : Pos → Type 0) (start : Pos) where
           let at' : IsAtStep (entry_of queue head).at step p = subst (λ (q : Pos). IsAtStep q step p) (sym head_is) at in
           let beside' : AreBesideUnder m.adjacency (entry_of queue head).at p = subst (λ (q : Pos). AreBesideUnder m.adjacency q p) (sym head_is) beside in
           let g = goes_on marks places head p (n + 1) mark marks' places' r.flooding r.begun there
-          (λ is_open free. beside_head open_present r.flooding.steps queue head p step below r.flooding.flood r.begun at' beside' is_open free) (ap (λ (e : Reached). e.steps + 1) r.here_is) mark_is one in
+          (λ is_open free. beside_head open_present r.flooding.steps queue head p step below r.flooding.flood r.begun at' beside' is_open free)
+          (ap (λ (e : Reached). e.steps + 1) r.here_is) mark_is one in
           record {
             flooding = g.flooding;
             begun = g.begun;

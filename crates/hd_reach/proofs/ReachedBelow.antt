@@ -60,7 +60,8 @@ module _ (m : Map) (side : SideName) (level : Option Rank) where
   }
 
   -- a path below the level as such a way
-  pub IsReachedLow-way : (a : Pos) (xs : List Rank) (x : Rank) → Present m a → Leads (Near m) (rank m a) xs x → All (IsBelowSaddle side level) (rank m a ∷ xs) → (p : Pos) × (rank m p ≡ x) × IsReachedLow m side level a p
+  pub IsReachedLow-way : (a : Pos) (xs : List Rank) (x : Rank) → Present m a → Leads (Near m) (rank m a) xs x → All (IsBelowSaddle side level) (rank m a ∷ xs) → (p : Pos)
+      × (rank m p ≡ x) × IsReachedLow m side level a p
   IsReachedLow-way a [] x here l all = (a, l, ([], refl))
   IsReachedLow-way a (y ∷ ys) x here l all =
       let P : Rank → Type 0 = IsBelowSaddle side level in

@@ -26,9 +26,13 @@ pub fn flood<S: Side, M: FloodMark, G: Heights>(
 ) -> Result<(), Memory>
     requires whole { length marks.old.items ≡ cell_count (G.map grid.now).size }
     requires start { LiesWithin (G.map grid.now) S.NAME bound.level bound.strict start }
-    requires blank { AreBlank (G.map grid.now) (LiesWithin (G.map grid.now) S.NAME bound.level bound.strict) start M.blank marks.old.items }
+    requires blank { AreBlank (G.map grid.now)
+        (LiesWithin (G.map grid.now) S.NAME bound.level bound.strict) start M.blank
+        marks.old.items }
     requires first { first ≡ M.blank → ⊥ }
-    ensures { OnOk result (AreMarked (G.map grid.now) (LiesWithin (G.map grid.now) S.NAME bound.level bound.strict) start goal (marking M.blank M.after first marks.old.items) marks.new.items) }
+    ensures { OnOk result (AreMarked (G.map grid.now)
+        (LiesWithin (G.map grid.now) S.NAME bound.level bound.strict) start goal
+        (marking M.blank M.after first marks.old.items) marks.new.items) }
 {
     let size = grid.size();
     let place = index_of(size, start);
@@ -58,7 +62,9 @@ fn reach_round<S: Side, M: FloodMark, G: Heights>(
 ) -> Result<(), Memory>
     requires here { InGrid (G.map grid.now).size here }
     requires whole { length marks.old.items ≡ cell_count (G.map grid.now).size }
-    ensures { OnOk result (FloodsRound (G.map grid.now) (LiesWithin (G.map grid.now) S.NAME bound.level bound.strict) M.blank M.after here marks.old.items queue.old.items marks.new.items queue.new.items) }
+    ensures { OnOk result (FloodsRound (G.map grid.now)
+        (LiesWithin (G.map grid.now) S.NAME bound.level bound.strict) M.blank M.after here
+        marks.old.items queue.old.items marks.new.items queue.new.items) }
 {
     let mark = marks[index_of(grid.size(), here) as usize].after();
     reach_at::<S, M, G>(grid, bound, here, 0, 0, mark, marks, queue)?;
@@ -88,7 +94,9 @@ fn reach_at<S: Side, M: FloodMark, G: Heights>(
     requires x { x ≤ 2 }
     requires y { y ≤ 2 }
     requires whole { length marks.old.items ≡ cell_count (G.map grid.now).size }
-    ensures reaches { OnOk result (ReachesAt (G.map grid.now) (LiesWithin (G.map grid.now) S.NAME bound.level bound.strict) M.blank here x y mark marks.old.items queue.old.items marks.new.items queue.new.items) }
+    ensures reaches { OnOk result (ReachesAt (G.map grid.now)
+        (LiesWithin (G.map grid.now) S.NAME bound.level bound.strict) M.blank here x y mark
+        marks.old.items queue.old.items marks.new.items queue.new.items) }
     ensures whole { OnOk result (length marks.new.items ≡ cell_count (G.map grid.now).size) }
 {
     match beside_at(grid, here, x, y) {
@@ -109,7 +117,9 @@ fn reach<S: Side, M: FloodMark, G: Heights>(
 ) -> Result<(), Memory>
     requires at { InGrid (G.map grid.now).size at }
     requires whole { length marks.old.items ≡ cell_count (G.map grid.now).size }
-    ensures reaches { OnOk result (Reaches (G.map grid.now).size (LiesWithin (G.map grid.now) S.NAME bound.level bound.strict) M.blank at mark marks.old.items queue.old.items marks.new.items queue.new.items) }
+    ensures reaches { OnOk result (Reaches (G.map grid.now).size
+        (LiesWithin (G.map grid.now) S.NAME bound.level bound.strict) M.blank at mark
+        marks.old.items queue.old.items marks.new.items queue.new.items) }
     ensures whole { OnOk result (length marks.new.items ≡ cell_count (G.map grid.now).size) }
 {
     let index = index_of(grid.size(), at);

@@ -24,12 +24,14 @@ use hd_num::reduced_fraction_is_determined;
 
 /// A map has one list of regions on a side.
 pub fn region_sizes_are_determined()
-    ensures { (m : Map) (side : SideName) (a b : List RegionSize) → IsMap m → AreRegionSizes m side a → AreRegionSizes m side b → a ≡ b }
+    ensures { (m : Map) (side : SideName) (a b : List RegionSize) → IsMap m
+        → AreRegionSizes m side a → AreRegionSizes m side b → a ≡ b }
 {}
 
 /// A pruning of a map on a side at a percent has one list of steps, and leaves one list of regions.
 pub fn pruned_regions_are_determined()
-    ensures { (m : Map) (side : SideName) (thousandths : ℕ) (xs ys : List Leaving) (a b : List RegionSize) → IsMap m
+    ensures { (m : Map) (side : SideName) (thousandths : ℕ) (xs ys : List Leaving)
+        (a b : List RegionSize) → IsMap m
         → ArePrunedRegions m side thousandths xs a → ArePrunedRegions m side thousandths ys b → (xs ≡ ys) × (a ≡ b) }
 {
     pruning_is_determined();
@@ -46,22 +48,26 @@ pub fn pruned_lines_are_determined()
 
 /// The pruning of a map on a side at a percent keeps one list of pits.
 pub fn kept_pits_are_determined()
-    ensures { (m : Map) (side : SideName) (thousandths : ℕ) (a b : List Kept) → AreKeptAlone m side thousandths a → AreKeptAlone m side thousandths b → a ≡ b }
+    ensures { (m : Map) (side : SideName) (thousandths : ℕ) (a b : List Kept)
+        → AreKeptAlone m side thousandths a → AreKeptAlone m side thousandths b → a ≡ b }
 {
     pruning_is_determined();
 }
 
 /// It leaves one list of regions, by what feature parameters take of them.
 pub fn features_are_determined()
-    ensures { (m : Map) (side : SideName) (thousandths : ℕ) (a b : List Region) → IsMap m → AreFeatures m side thousandths a → AreFeatures m side thousandths b → a ≡ b }
+    ensures { (m : Map) (side : SideName) (thousandths : ℕ) (a b : List Region) → IsMap m
+        → AreFeatures m side thousandths a → AreFeatures m side thousandths b → a ≡ b }
 {
     pruning_is_determined();
 }
 
 /// A notation and a parameter have one value on a map.
 pub fn values_are_determined()
-    ensures notations { (m : Map) (n : Notation) (a b : Option Frac) → IsMap m → IsNotationValue m n a → IsNotationValue m n b → AreSameValues a b }
-    ensures parameters { (m : Map) (p : Parameter) (a b : Option Frac) → IsMap m → IsParameterValue m p a → IsParameterValue m p b → AreSameValues a b }
+    ensures notations { (m : Map) (n : Notation) (a b : Option Frac) → IsMap m
+        → IsNotationValue m n a → IsNotationValue m n b → AreSameValues a b }
+    ensures parameters { (m : Map) (p : Parameter) (a b : Option Frac) → IsMap m
+        → IsParameterValue m p a → IsParameterValue m p b → AreSameValues a b }
 {
     pruning_is_determined();
     reduced_fraction_is_determined();

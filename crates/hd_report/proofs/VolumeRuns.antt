@@ -12,7 +12,8 @@ pub volume_lines-next : (size : Size) (kept : List Kept) (volumes : List (Option
     → volume_lines size (zip (drop n kept) (drop n volumes)) ≡ volume_line size (get_or kept n d).pit v ++ volume_lines size (zip (drop (n + 1) kept) (drop (n + 1) volumes))
 volume_lines-next size kept volumes n d v inside within is =
     let rest = volume_lines size (zip (drop (n + 1) kept) (drop (n + 1) volumes)) in
-    ap₂ (λ (ks : List Kept) (vs : List (Option Frac)). volume_lines size (zip ks vs)) (drop_more kept n d inside) (drop_more volumes n v within) ∙ ap (λ w. volume_line size (get_or kept n d).pit w ++ rest) (sym is)
+    ap₂ (λ (ks : List Kept) (vs : List (Option Frac)). volume_lines size (zip ks vs)) (drop_more kept n d inside) (drop_more volumes n v within)
+    ∙ ap (λ w. volume_line size (get_or kept n d).pit w ++ rest) (sym is)
 
 -- none after the last
 pub volume_lines-end : (size : Size) (kept : List Kept) (volumes : List (Option Frac)) (n : ℕ) → length kept ≤ n → volume_lines size (zip (drop n kept) (drop n volumes)) ≡ []

@@ -24,7 +24,8 @@ pub fn form_cause(alloc: Global, error: LineError) -> Result<List<u8>, Memory>
 
 // Adds that the word of this number has not its form.
 fn push_bad_word(text: &mut List<u8>, word: u32) -> Result<(), Memory>
-    ensures { OnOk result (text.new ≡ text.old ++ codes "word " ++ decimal word ++ codes " has not its form") }
+    ensures { OnOk result (text.new ≡ text.old ++ codes "word " ++ decimal word
+        ++ codes " has not its form") }
 {
     push_text(text, b"word ".as_slice())?;
     push_unsigned(text, u64::from(word))?;

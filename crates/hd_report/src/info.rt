@@ -28,7 +28,8 @@ pub fn tell_info(
     presence: Presence,
     scales: &Scales<'_>,
 ) -> Result<List<u8>, Memory>
-    ensures { IfOk result (λ text. text ≡ info_text size data_type presence scales.now.x.now scales.now.y.now scales.now.z.now) }
+    ensures { IfOk result (λ text. text ≡ info_text size data_type presence scales.now.x.now
+        scales.now.y.now scales.now.z.now) }
 {
     let mut text = List::new(alloc);
     push_text(&mut text, b"info\n".as_slice())?;
@@ -141,7 +142,8 @@ fn push_height(text: &mut List<u8>, before: &[u8], height: i64) -> Result<(), Me
 
 // Adds the line of the scales.
 fn push_scales(text: &mut List<u8>, scales: &Scales<'_>) -> Result<(), Memory>
-    ensures { OnOk result (text.new ≡ text.old ++ scales_line scales.now.x.now scales.now.y.now scales.now.z.now) }
+    ensures { OnOk result (text.new ≡ text.old
+        ++ scales_line scales.now.x.now scales.now.y.now scales.now.z.now) }
 {
     push_text(text, b"scales ".as_slice())?;
     push_text(text, scales.x)?;

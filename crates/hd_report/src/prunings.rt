@@ -29,7 +29,8 @@ pub fn list_pruning(
 ) -> Result<List<u8>, Memory>
     requires steps { All (λ step. IsStepInside size (leaving_of step)) steps.now }
     requires kept { All (λ region. region.pit.index < cell_count size) kept.now }
-    ensures { IfOk result (λ text. text ≡ prune_text side percent.thousandths size (leavings_of steps.now) kept.now) }
+    ensures { IfOk result (λ text. text ≡ prune_text side percent.thousandths size
+        (leavings_of steps.now) kept.now) }
 {
     let pits = steps.len().saturating_add(kept.len());
     let mut text = List::with_capacity(alloc, pits.saturating_mul(PIT_BYTES))?;
@@ -64,7 +65,8 @@ fn push_heading(
 // Adds a line for each step.
 fn push_steps(text: &mut List<u8>, size: Size, steps: &[Step]) -> Result<(), Memory>
     requires { All (λ step. IsStepInside size (leaving_of step)) steps.now }
-    ensures { OnOk result (text.new ≡ text.old ++ flat_map (λ step. step_line size (leaving_of step)) steps.now) }
+    ensures { OnOk result (text.new ≡ text.old
+        ++ flat_map (λ step. step_line size (leaving_of step)) steps.now) }
 {
     'lines: for step in steps {
         push_step(text, size, *step)?;

@@ -39,7 +39,8 @@ pub fn list_tree(
 // Adds a line for each saddle.
 fn push_joins(text: &mut List<u8>, size: Size, joins: &[Join]) -> Result<(), Memory>
     requires { All (λ join. IsJoinInside size (joining_of join)) joins.now }
-    ensures { OnOk result (text.new ≡ text.old ++ flat_map (λ join. join_line size (joining_of join)) joins.now) }
+    ensures { OnOk result (text.new ≡ text.old
+        ++ flat_map (λ join. join_line size (joining_of join)) joins.now) }
 {
     'lines: for join in joins {
         push_join(text, size, join)?;

@@ -26,7 +26,8 @@ pub fn list_volumes(
 ) -> Result<List<u8>, Memory>
     requires inside { All (λ k. k.pit.index < cell_count size) kept.now }
     requires each { length volumes.now ≡ length kept.now }
-    ensures { IfOk result (λ text. (fills : Items (Kept × Maybe Frac)) × AreWithVolumes kept.now volumes.now fills
+    ensures { IfOk result (λ text. (fills : Items (Kept × Maybe Frac))
+        × AreWithVolumes kept.now volumes.now fills
         × (text ≡ fill_text side percent.thousandths size fills)) }
 {
     let mut text = List::new(alloc);

@@ -1,5 +1,6 @@
 -- Answers to lines, one more line at a time.
-use Rattle.std.proofs.Common.{◌≡◌, ◌+◌, ◌++◌, ◌&&◌, ◌≤◌, ℕ, zero, suc, Bool, true, false, List, [], ◌∷◌, length, take, drop, Option, Ok, Err, refl, sym, ap, ◌∙◌, subst, arith, append_assoc, append-nil, take-append-drop, length-drop, length-take-le}
+use Rattle.std.proofs.Common.{◌≡◌, ◌+◌, ◌++◌, ◌&&◌, ◌≤◌, ℕ, zero, suc, Bool, true, false, List, [], ◌∷◌, length, take, drop, Option, Ok, Err, refl, sym}
+use Rattle.std.proofs.Common.{ap, ◌∙◌, subst, arith, append_assoc, append-nil, take-append-drop, length-drop, length-take-le}
 use Rattle.std.specs.Io.{StartsWith}
 use Rattle.std.specs.Io.KnownBytes.{Appends}
 use Rattle.std.proofs.KnownBytes.{Appends-trans, Appends-kept}
@@ -30,7 +31,8 @@ and_true true = refl
 and_true false = refl
 
 joined_assoc : (a b c : Reply) → joined (joined a b) c ≡ joined a (joined b c)
-joined_assoc a b c = ap (λ t. reply_of t ((a.text ++ b.text) ++ c.text)) (and_assoc a.accepted b.accepted c.accepted) ∙ ap (λ xs. reply_of (a.accepted && (b.accepted && c.accepted)) xs) (append_assoc a.text b.text c.text)
+joined_assoc a b c = ap (λ t. reply_of t ((a.text ++ b.text) ++ c.text)) (and_assoc a.accepted b.accepted c.accepted)
+    ∙ ap (λ xs. reply_of (a.accepted && (b.accepted && c.accepted)) xs) (append_assoc a.text b.text c.text)
 
 joined_nothing : (a : Reply) → joined a nothing ≡ a
 joined_nothing a = ap (λ t. reply_of t (a.text ++ [])) (and_true a.accepted) ∙ ap (λ xs. reply_of a.accepted xs) (append-nil a.text)
@@ -44,8 +46,15 @@ answers_then s number [] reply mid line last after are is =
     (last, after, nothing, here, record { state = refl; reply = refl }, ap (λ (r : Reply). joined r last) are.reply ∙ sym (joined_nothing last))
 answers_then s number (other ∷ lines) reply mid line last after (first, middle, others, is_first, are, reply_is) is =
     let e : number + length (other ∷ lines) ≡ (number + 1) + length lines = omega arith in
-    let here : IsAnswer mid ((number + 1) + length lines) line last after = subst (λ (n : ℕ). IsAnswer mid n line last after) e is in
-    (first, middle, joined others last, is_first, answers_then middle (number + 1) lines others mid line last after are here, ap (λ (r : Reply). joined r last) reply_is ∙ joined_assoc first others last)
+    let here : IsAnswer mid ((number + 1) + length lines) line last after = subst (λ (n : ℕ). IsAnswer mid n line last after) e is in (
+      first,
+      middle,
+      joined others last,
+      is_first,
+      answers_then middle (number + 1) lines others mid line last after are here,
+      ap (λ (r : Reply). joined r last) reply_is
+          ∙ joined_assoc first others last,
+    )
 
 -- of the answers to all lines, those to the first few
 first_answers : (s : State) (number : ℕ) (lines : List (List ℕ)) (n : ℕ) (reply : Reply) (after : State) → AreAnswers s number lines reply after
@@ -65,10 +74,12 @@ first_answers s number (line ∷ lines) (suc n) reply after (first, middle, othe
 
 -- that the lines of a script have one answer
 abbrev pub AnswersAreDetermined : Type 0
-AnswersAreDetermined = (s : State) (number : ℕ) (lines : List (List ℕ)) (a b : Reply) (s' s'' : State) → IsState s → AreAnswers s number lines a s' → AreAnswers s number lines b s'' → (a ≡ b) × (s' ≡ s'')
+AnswersAreDetermined = (s : State) (number : ℕ) (lines : List (List ℕ)) (a b : Reply) (s' s'' : State) → IsState s → AreAnswers s number lines a s'
+    → AreAnswers s number lines b s'' → (a ≡ b) × (s' ≡ s'')
 
 -- the answers to all lines begin with those to the first few
-pub AnswersFirst-starts : AnswersAreDetermined → (s : State) (lines : List (List ℕ)) (text : List ℕ) (reply : Reply) (last : State) → IsState s → AnswersFirst s lines text → AreAnswers s 1 lines reply last
+pub AnswersFirst-starts : AnswersAreDetermined → (s : State) (lines : List (List ℕ)) (text : List ℕ) (reply : Reply) (last : State) → IsState s → AnswersFirst s lines text
+    → AreAnswers s 1 lines reply last
     → StartsWith reply.text text
 AnswersFirst-starts law s lines text reply last whole first all =
     let some = first_answers s 1 lines first.count reply last all in

@@ -23,7 +23,8 @@ use Rattle.hd_run.specs.declared.stop.Stop.{Stop}
 use Rattle.hd_run.specs.declared.stop.Stop.TheVariants.{Memory, ReadFault, WriteFault, Refused}
 use Rattle.hd_run.specs.Limits.{certificate_limit}
 use Rattle.hd_run.specs.Inputs.{IsCertificateRead, IsSurfaceRead}
-use Rattle.hd_run.specs.Outcome.{RunOutcome, IsTheRunOutcome, IsOutcomeOfCertificate, IsOutcomeOfCheck, IsOutcomeOfKind, IsOutcomeOfReading, acceptance, begins_pruning, certificate_text_of, judges, surface_of}
+use Rattle.hd_run.specs.Outcome.{RunOutcome, IsTheRunOutcome, IsOutcomeOfCertificate, IsOutcomeOfCheck, IsOutcomeOfKind, IsOutcomeOfReading, acceptance}
+use Rattle.hd_run.specs.Outcome.{begins_pruning, certificate_text_of, judges, surface_of}
 use Rattle.hd_run.specs.RunResult.{IsCheck, IsJudged}
 use Rattle.hd_run.specs.Texts.{accepted_text}
 
@@ -41,7 +42,8 @@ pub OnErr-holds : {T E P : Type 0} (r : Result T E) → is_err r ≡ true → On
 OnErr-holds (Ok x) failed h = absurd (cc)
 OnErr-holds (Err e) failed h = h
 
-one_outcome : {C : Type 0} (Is : C → Verdict → Type 0) → ((c : C) (v w : Verdict) → Is c v → Is c w → v ≡ w) → (reading : Result C CertificateError) (a b : RunOutcome) → IsOutcomeOfReading Is reading a → IsOutcomeOfReading Is reading b → a ≡ b
+one_outcome : {C : Type 0} (Is : C → Verdict → Type 0) → ((c : C) (v w : Verdict) → Is c v → Is c w → v ≡ w) → (reading : Result C CertificateError) (a b : RunOutcome)
+    → IsOutcomeOfReading Is reading a → IsOutcomeOfReading Is reading b → a ≡ b
 one_outcome Is law (Ok certificate) a b (v, is, e) (w, is', e') = e ∙ ap judges (law certificate v w is is') ∙ sym e'
 one_outcome Is law (Err error) a b (line, is, e) (line', is', e') =
     let told : BadLine line ≡ BadLine line' = sym is ∙ is' in

@@ -26,7 +26,8 @@ module _ {R : Type 0} (StandsFor : R → List ℕ → Type 0) where
   }
 
   -- few bytes are taken with one more piece
-  pub TakesFew-fed : (bytes : List ℕ) (before mid left : Option (List ℕ)) (reader : R) (limit count n : ℕ) (piece : List ℕ) → before ≡ Some bytes → HasFed before mid reader count → Consumes mid left (take n piece)
+  pub TakesFew-fed : (bytes : List ℕ) (before mid left : Option (List ℕ)) (reader : R) (limit count n : ℕ) (piece : List ℕ) → before ≡ Some bytes → HasFed before mid reader count
+      → Consumes mid left (take n piece)
       → count + length piece ≤ limit + 1 → TakesFew bytes limit left
   TakesFew-fed bytes before mid left reader limit count n piece told fed more fits =
       TakesFew-more bytes fed.got piece limit n before mid left told fed.taken more (omega (arith, fits, fed.size))

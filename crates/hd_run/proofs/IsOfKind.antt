@@ -45,7 +45,8 @@ IsOfKind-whole : (kind : Bool) (bytes : List ℕ) → IsOfKind kind bytes → be
 IsOfKind-whole kind bytes is = ap (λ (xs : List ℕ). begins_pruning (lines_of xs)) (sym (append-nil bytes)) ∙ is []
 
 -- what is judged by its kind
-pub IsJudged-by_kind : {T : Type 0} (m : Map) (kind : Bool) (bytes : List ℕ) (result : Result T Stop) → IsOfKind kind bytes → IsJudgedAs {T = T} (IsOutcomeOfKind kind m bytes) result → IsJudged {T = T} m bytes result
+pub IsJudged-by_kind : {T : Type 0} (m : Map) (kind : Bool) (bytes : List ℕ) (result : Result T Stop) → IsOfKind kind bytes
+    → IsJudgedAs {T = T} (IsOutcomeOfKind kind m bytes) result → IsJudged {T = T} m bytes result
 IsJudged-by_kind {T} m kind bytes result is judged = subst (λ (k : Bool). IsJudgedAs {T = T} (IsOutcomeOfKind k m bytes) result) (sym (IsOfKind-whole kind bytes is)) judged
 
 -- what was read of a certificate is what its bytes say, unless memory was refused

@@ -28,7 +28,8 @@ pub SecondComesLast-untouched : {R : Type 0} (name : Option (List ℕ)) (surface
 SecondComesLast-untouched name surface surfaces script = record { unnamed = λ none. refl; failed = λ rose. refl; refused = λ bytes refusal told no. refl }
 
 -- a second input that is read once the surface is accepted
-pub SecondComesLast-after : {R : Type 0} (given : Option (List ℕ)) (surface : Option (List ℕ)) (surfaces : Count) (script script' : R) (name : List ℕ) (file : File) → given ≡ Some name → Stays surfaces
+pub SecondComesLast-after : {R : Type 0} (given : Option (List ℕ)) (surface : Option (List ℕ)) (surfaces : Count) (script script' : R) (name : List ℕ) (file : File)
+    → given ≡ Some name → Stays surfaces
     → ((bytes : List ℕ) → surface ≡ Some bytes → surface_of bytes ≡ Ok file) → SecondComesLast given surface surfaces script script'
 SecondComesLast-after given surface surfaces script script' name file named stays accepted = record {
   unnamed = λ none. absurd (cc);
@@ -37,7 +38,8 @@ SecondComesLast-after given surface surfaces script script' name file named stay
 }
 
 -- how far it is read, whatever name is meant
-pub StopsWithin-second : {U : Type 0} (given : Option (List ℕ)) (name other : List ℕ) (limit : ℕ) (r : Reading) → given ≡ Some name → given ≡ Some other → StopsWithin limit name r → U ⊎ StopsWithin limit other r
+pub StopsWithin-second : {U : Type 0} (given : Option (List ℕ)) (name other : List ℕ) (limit : ℕ) (r : Reading) → given ≡ Some name → given ≡ Some other → StopsWithin limit name r
+    → U ⊎ StopsWithin limit other r
 StopsWithin-second given name other limit r named is read = let same : name ≡ other = cc in inr (subst (λ (n : List ℕ). StopsWithin limit n r) same read)
 
 pub lines_to_answer-none : (script : Option (List ℕ)) (bytes : List ℕ) → script ≡ None → lines_to_answer script bytes ≡ Ok (codes "dales" ∷ [])
@@ -50,7 +52,8 @@ pub lines_to_answer-fits : (script : Option (List ℕ)) (name bytes : List ℕ) 
 lines_to_answer-fits script name bytes is fits = let test : nat_lt script_limit (length bytes) ≡ false = grind (arith, nat_tests) in rw (is, test) refl
 
 module _ (request : RunRequest) (surface script : List ℕ) where
-  pub inputs_of-ok : (file : File) (lines : List (List ℕ)) → surface_of surface ≡ Ok file → lines_to_answer request.script script ≡ Ok lines → inputs_of request surface script ≡ Ok (record { file = file; lines = lines })
+  pub inputs_of-ok : (file : File) (lines : List (List ℕ)) → surface_of surface ≡ Ok file → lines_to_answer request.script script ≡ Ok lines
+      → inputs_of request surface script ≡ Ok (record { file = file; lines = lines })
   inputs_of-ok file lines read asks = ap (λ (s : Result File Refusal). both_inputs s (lines_to_answer request.script script)) read ∙ ap (both_inputs (Ok file)) asks
 
   inputs_of-surface : (refusal : Refusal) → surface_of surface ≡ Err refusal → inputs_of request surface script ≡ Err refusal
@@ -98,7 +101,8 @@ module _ (request : RunRequest) (surface script : List ℕ) where
     }
 
     -- the answers to all lines, and the file that they leave, are the outcome
-    is_defined : (reply : Reply) (after : State) → AreAnswers (first_state inputs.file) 1 inputs.lines reply after → IsTheRunOutcome (IsOutcomeOfRun request surface script) (Ok (answered request.save reply after))
+    is_defined : (reply : Reply) (after : State) → AreAnswers (first_state inputs.file) 1 inputs.lines reply after
+        → IsTheRunOutcome (IsOutcomeOfRun request surface script) (Ok (answered request.save reply after))
     is_defined reply after are = record {
       is = subst (λ (r : Result Inputs Refusal). IsOutcomeOfInputs request.save r (Ok (answered request.save reply after))) (sym accepted) (reply, after, are, refl);
       only = λ other h. let k = lines_of_outcome other h in let same = law (first_state inputs.file) 1 inputs.lines k.0 reply k.1 after whole k.2 are in
@@ -106,9 +110,11 @@ module _ (request : RunRequest) (surface script : List ℕ) where
     }
 
     -- the answers to the lines, and the saving of the file that they leave, are those of a run
-    pub IsRun-answered : (stays : Type 0) (s : Saving) (result : Result Bool Stop) (old new : Option (List ℕ)) → AnswersAndSaves request.save (first_state inputs.file) inputs.lines stays s result old new
+    pub IsRun-answered : (stays : Type 0) (s : Saving) (result : Result Bool Stop) (old new : Option (List ℕ))
+        → AnswersAndSaves request.save (first_state inputs.file) inputs.lines stays s result old new
         → IsRun request surface script stays s result old new
-    IsRun-answered stays s (Ok all_accepted) old new (text, after, are, written, saved) = (answered request.save (reply_of all_accepted text) after, is_defined (reply_of all_accepted text) after are, refl, written, saved)
+    IsRun-answered stays s (Ok all_accepted) old new (text, after, are, written, saved) =
+        (answered request.save (reply_of all_accepted text) after, is_defined (reply_of all_accepted text) after are, refl, written, saved)
     IsRun-answered stays s (Err Memory) old new (text, first, written) = inr (text, is_begun text first, written)
     IsRun-answered stays s (Err WriteFault) old new (inl (kept, text, first, part)) = inl (kept, text, is_begun text first, part)
     IsRun-answered stays s (Err WriteFault) old new (inr (all_accepted, text, after, are, written, saved, is, some)) =

@@ -51,7 +51,8 @@ module _ (save : Option (List ℕ)) (first : State) (lines : List (List ℕ)) (s
   AnswersAndSaves-lines_stop (Refused refusal) after kept h = absurd h
 
   -- all lines are answered, and nothing is to be saved
-  pub AnswersAndSaves-lines_kept : (accepted : Bool) (after : State) → save ≡ None → stays → WritesAnswers first lines (Ok accepted) after old new → AnswersAndSaves save first lines stays s (Ok accepted) old new
+  pub AnswersAndSaves-lines_kept : (accepted : Bool) (after : State) → save ≡ None → stays → WritesAnswers first lines (Ok accepted) after old new
+      → AnswersAndSaves save first lines stays s (Ok accepted) old new
   AnswersAndSaves-lines_kept accepted after none kept (text, are, written) = (text, after, are, written, subst (λ (o : Option (List ℕ)). IsSavedAs stays s (saved_of o after)) (sym none) kept)
 
   module _ (accepted : Bool) (after : State) (name : List ℕ) (named : save ≡ Some name) where
@@ -63,7 +64,8 @@ module _ (save : Option (List ℕ)) (first : State) (lines : List (List ℕ)) (s
     AnswersAndSaves-lines_saved (text, are, written) all = (text, after, are, written, subst (IsSavedAs stays s) (sym text_saved) all)
 
     -- all lines are answered, and the saving of their file stops
-    pub AnswersAndSaves-saving_stops : (T : Type 0) (stop : Stop) → WritesAnswers first lines (Ok accepted) after old new → Saves {T = T} (canonical (saved_file after)) stays (Err stop) s → AnswersAndSaves save first lines stays s (Err stop) old new
+    pub AnswersAndSaves-saving_stops : (T : Type 0) (stop : Stop) → WritesAnswers first lines (Ok accepted) after old new
+        → Saves {T = T} (canonical (saved_file after)) stays (Err stop) s → AnswersAndSaves save first lines stays s (Err stop) old new
     AnswersAndSaves-saving_stops T Memory (text, are, written) h = (text, AnswersFirst-all first lines accepted text after are, written)
     AnswersAndSaves-saving_stops T WriteFault (text, are, written) some = inr (accepted, text, after, are, written, canonical (saved_file after), text_saved, some)
     AnswersAndSaves-saving_stops T ReadFault w h = absurd h
@@ -89,7 +91,8 @@ module _ (save : Option (List ℕ)) (result : Result Bool Stop) (stays : Type 0)
   SavesLast-unreached stop is kept count = last_untouched kept count (λ accepted name done asked. cc)
 
   -- the file is saved
-  pub SavesLast-saved : (accepted : Bool) (name text : List ℕ) → save ≡ Some name → result ≡ Ok accepted → Stays surface → Stays script → SavesAll text s → SavesLast save result stays surface script out s
+  pub SavesLast-saved : (accepted : Bool) (name text : List ℕ) → save ≡ Some name → result ≡ Ok accepted → Stays surface → Stays script → SavesAll text s
+      → SavesLast save result stays surface script out s
   SavesLast-saved accepted name text named is a b all = record {
     unasked = λ none. absurd (cc);
     stopped = λ stop other not_write. absurd (cc);

@@ -78,7 +78,8 @@ module _ {U : Type 0} (surface script out saved : Count) (stop : Stop) where
   }
 
   -- the certificate is refused
-  pub HasRunStop-judged : {T : Type 0} → ◌≢◌ {A = Result T Stop} (Err stop) (Err ReadFault) → ◌≢◌ {A = Result T Stop} (Err stop) (Err WriteFault) → Stays surface → Stays script → Stays out → Stays saved
+  pub HasRunStop-judged : {T : Type 0} → ◌≢◌ {A = Result T Stop} (Err stop) (Err ReadFault) → ◌≢◌ {A = Result T Stop} (Err stop) (Err WriteFault) → Stays surface → Stays script
+      → Stays out → Stays saved
       → HasRunStop {T = U} surface script out saved (Err stop)
   HasRunStop-judged no_fault no_write a b c d = record {
     read = λ e. let same : stop ≡ ReadFault = cc in absurd (no_fault (ap Err same));
@@ -87,7 +88,8 @@ module _ {U : Type 0} (surface script out saved : Count) (stop : Stop) where
   }
 
 -- both inputs are read, and the lines answered or not
-pub HasRunStop-answering : {T : Type 0} (surface script out saved : Count) (result : Result T Stop) → Stays surface → Stays script → HasSinkStop out saved result → HasRunStop surface script out saved result
+pub HasRunStop-answering : {T : Type 0} (surface script out saved : Count) (result : Result T Stop) → Stays surface → Stays script → HasSinkStop out saved result
+    → HasRunStop surface script out saved result
 HasRunStop-answering surface script out saved result a b cause = record {
   read = λ e. absurd (HasSinkStop-no_read_fault out saved result cause e);
   write = λ e. (a, b, cause.write e);

@@ -33,7 +33,8 @@ impl CertificateReader {
     /// The reader with the next piece.
     pub fn fed(self, alloc: Global, piece: &[u8]) -> Result<CertificateReader, Memory>
         requires { fed_of self + length piece.now < 2 ^ 63 }
-        ensures stands { IfOk result (λ reader. (bytes : Items ℕ) → StandsFor self bytes → StandsFor reader (bytes ++ piece.now)) }
+        ensures stands { IfOk result (λ reader. (bytes : Items ℕ) → StandsFor self bytes
+            → StandsFor reader (bytes ++ piece.now)) }
         ensures fed { IfOk result (λ reader. fed_of reader ≡ fed_of self + length piece.now) }
     {
         match self {

@@ -45,8 +45,10 @@ pub fn check_certificate<S: Source, R: Source, W: Sink>(
     ensures unwritten { result ≡ Err Stop.ReadFault → Keeps (W.written out.old) (W.written out.new) }
     ensures order { SecondComesLast (Some job.now.certificate.now) (S.files surface.old job.now.surface.now)
         (over (S.faults surface.old) (S.faults surface.new)) script.old script.new }
-    ensures unread { (refusal : Refusal) → result ≡ Err (Stop.Refused refusal) → IsOfSurface refusal → script.new ≡ script.old }
-    ensures surface_left { StopsWithin surface_limit job.now.surface.now (reading (S.files surface.old) (S.left surface.old)
+    ensures unread { (refusal : Refusal) → result ≡ Err (Stop.Refused refusal) → IsOfSurface refusal
+        → script.new ≡ script.old }
+    ensures surface_left { StopsWithin surface_limit job.now.surface.now
+        (reading (S.files surface.old) (S.left surface.old)
         (S.left surface.new) (over (S.faults surface.old) (S.faults surface.new))) }
     ensures certificate_left { (script.new ≡ script.old)
         ⊎ StopsWithin certificate_limit job.now.certificate.now (reading (R.files script.old) (R.left script.old)
@@ -55,7 +57,8 @@ pub fn check_certificate<S: Source, R: Source, W: Sink>(
         → result ≡ Err Stop.ReadFault
         → SourceFailed (surface_of bytes) (over (S.faults surface.old) (S.faults surface.new))
         (over (R.faults script.old) (R.faults script.new)) }
-    ensures cause { (saved : Count) → Stays saved → HasRunStop (over (S.faults surface.old) (S.faults surface.new))
+    ensures cause { (saved : Count) → Stays saved
+        → HasRunStop (over (S.faults surface.old) (S.faults surface.new))
         (over (R.faults script.old) (R.faults script.new)) (over (W.faults out.old) (W.faults out.new)) saved result }
 {
     let file = match read_surface(alloc, surface, job.surface) {
@@ -83,7 +86,8 @@ fn check_second<R: Source, W: Sink>(
         → R.files script.old job.now.certificate.now ≡ Some second
         → IsCheck bytes second result (W.written out.old) (W.written out.new) }
     ensures unwritten { result ≡ Err Stop.ReadFault → Keeps (W.written out.old) (W.written out.new) }
-    ensures certificate_left { StopsWithin certificate_limit job.now.certificate.now (reading (R.files script.old)
+    ensures certificate_left { StopsWithin certificate_limit job.now.certificate.now
+        (reading (R.files script.old)
         (R.left script.old) (R.left script.new) (over (R.faults script.old) (R.faults script.new))) }
     ensures failed { result ≡ Err Stop.ReadFault → RoseIn (over (R.faults script.old) (R.faults script.new)) }
     ensures later { IfErr result IsNotOfSurface }
@@ -134,7 +138,8 @@ fn judge_line(alloc: Global, surface: &Surface, text: &[u8]) -> Result<(), Stop>
 
 // The same of a saddle certificate.
 fn judge_saddle(alloc: Global, surface: &Surface, text: &[u8]) -> Result<(), Stop>
-    ensures judged { IsJudgedAs (IsOutcomeOfReading (IsVerdict (map_of surface.now)) (certificate_of text.now)) result }
+    ensures judged { IsJudgedAs (IsOutcomeOfReading (IsVerdict (map_of surface.now))
+        (certificate_of text.now)) result }
     ensures later { IfErr result IsNotOfSurface }
 {
     match hd_check::read_certificate(alloc, text) {

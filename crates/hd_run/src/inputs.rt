@@ -20,7 +20,8 @@ use std::alloc::Global;
 pub fn read_surface<S: Source>(alloc: Global, source: &mut S, name: &str) -> Result<SdfFile, Stop>
     requires { IsTrue (S.allows source.old name.now) }
     ensures told { (bytes : Items ℕ) → S.files source.old name.now ≡ Some bytes → IsSurfaceRead bytes result }
-    ensures left { StopsWithin surface_limit name.now (reading (S.files source.old) (S.left source.old) (S.left source.new)
+    ensures left { StopsWithin surface_limit name.now
+        (reading (S.files source.old) (S.left source.old) (S.left source.new)
         (over (S.faults source.old) (S.faults source.new))) }
     ensures cause { HasReadStop (S.faults source.old) (S.faults source.new) result }
 {
@@ -34,7 +35,8 @@ pub fn read_surface<S: Source>(alloc: Global, source: &mut S, name: &str) -> Res
 fn read_open_surface<S: Source>(alloc: Global, source: &mut S) -> Result<SdfFile, Stop>
     requires { IsTrue (S.is_open source.old) }
     ensures told { (bytes : Items ℕ) → S.left source.old ≡ Some bytes → IsSurfaceRead bytes result }
-    ensures few { (bytes : Items ℕ) → S.left source.old ≡ Some bytes → TakesFew bytes surface_limit (S.left source.new) }
+    ensures few { (bytes : Items ℕ) → S.left source.old ≡ Some bytes
+        → TakesFew bytes surface_limit (S.left source.new) }
     ensures cause { HasReadStop (S.faults source.old) (S.faults source.new) result }
 {
     let Ok(mut reader) = SdfReader::new(alloc) else {
@@ -55,7 +57,8 @@ fn feed_all<S: Source>(alloc: Global, source: &mut S, reader: &mut SdfReader) ->
     requires fresh { StandsFor reader.old [] }
     requires unfed { fed_of reader.old ≡ 0 }
     ensures told { IsFed (S.left source.old) reader.new result }
-    ensures few { (bytes : Items ℕ) → S.left source.old ≡ Some bytes → TakesFew bytes surface_limit (S.left source.new) }
+    ensures few { (bytes : Items ℕ) → S.left source.old ≡ Some bytes
+        → TakesFew bytes surface_limit (S.left source.new) }
     ensures cause { HasReadStop (S.faults source.old) (S.faults source.new) result }
 {
     let mut piece = [0u8; 65536];
@@ -81,7 +84,8 @@ fn feed_all<S: Source>(alloc: Global, source: &mut S, reader: &mut SdfReader) ->
 // Feeds one piece. After an offence the reader stays with it.
 fn feed_piece(alloc: Global, reader: &mut SdfReader, piece: &[u8]) -> Result<(), Memory>
     requires { fed_of reader.old + length piece.now < 2 ^ 63 }
-    ensures stands { OnOk result ((bytes : Items ℕ) → StandsFor reader.old bytes → StandsFor reader.new (bytes ++ piece.now)) }
+    ensures stands { OnOk result ((bytes : Items ℕ) → StandsFor reader.old bytes
+        → StandsFor reader.new (bytes ++ piece.now)) }
     ensures fed { fed_of reader.new ≤ fed_of reader.old + length piece.now }
 {
     match reader.feed(alloc, piece) {
@@ -95,7 +99,8 @@ fn feed_piece(alloc: Global, reader: &mut SdfReader, piece: &[u8]) -> Result<(),
 
 // The file of a reader that was fed all bytes.
 fn finished(alloc: Global, reader: SdfReader) -> Result<SdfFile, Stop>
-    ensures told { (bytes : Items ℕ) → length bytes ≤ surface_limit → StandsFor reader bytes → IsSurfaceRead bytes result }
+    ensures told { (bytes : Items ℕ) → length bytes ≤ surface_limit → StandsFor reader bytes
+        → IsSurfaceRead bytes result }
     ensures no_fault { result ≢ Err Stop.ReadFault }
     ensures no_write { result ≢ Err Stop.WriteFault }
 {
@@ -114,9 +119,11 @@ pub fn read_certificate<R: Source>(
     name: &str,
 ) -> Result<CertificateReader, Stop>
     requires { IsTrue (R.allows source.old name.now) }
-    ensures told { (bytes : Items ℕ) → R.files source.old name.now ≡ Some bytes → IsCertificateRead bytes result }
+    ensures told { (bytes : Items ℕ) → R.files source.old name.now ≡ Some bytes
+        → IsCertificateRead bytes result }
     ensures later { IfErr result IsNotOfSurface }
-    ensures left { StopsWithin certificate_limit name.now (reading (R.files source.old) (R.left source.old) (R.left source.new)
+    ensures left { StopsWithin certificate_limit name.now
+        (reading (R.files source.old) (R.left source.old) (R.left source.new)
         (over (R.faults source.old) (R.faults source.new))) }
     ensures cause { HasReadStop (R.faults source.old) (R.faults source.new) result }
 {
@@ -135,7 +142,8 @@ fn read_open_certificate<R: Source>(
     requires { IsTrue (R.is_open source.old) }
     ensures told { (bytes : Items ℕ) → R.left source.old ≡ Some bytes → IsCertificateRead bytes result }
     ensures later { IfErr result IsNotOfSurface }
-    ensures few { (bytes : Items ℕ) → R.left source.old ≡ Some bytes → TakesFew bytes certificate_limit (R.left source.new) }
+    ensures few { (bytes : Items ℕ) → R.left source.old ≡ Some bytes
+        → TakesFew bytes certificate_limit (R.left source.new) }
     ensures cause { HasReadStop (R.faults source.old) (R.faults source.new) result }
 {
     let mut reader = CertificateReader::new(alloc);
@@ -166,7 +174,8 @@ pub fn read_script<R: Source>(alloc: Global, source: &mut R, name: &str) -> Resu
     ensures told { (bytes : Items ℕ) → R.files source.old name.now ≡ Some bytes → IsScriptRead bytes result }
     ensures within { IfOk result (λ read. length read ≤ script_limit) }
     ensures later { IfErr result IsNotOfSurface }
-    ensures left { StopsWithin script_limit name.now (reading (R.files source.old) (R.left source.old) (R.left source.new)
+    ensures left { StopsWithin script_limit name.now
+        (reading (R.files source.old) (R.left source.old) (R.left source.new)
         (over (R.faults source.old) (R.faults source.new))) }
     ensures cause { HasReadStop (R.faults source.old) (R.faults source.new) result }
 {

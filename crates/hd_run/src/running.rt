@@ -50,10 +50,13 @@ pub fn run<E: SurfaceSession, S: Source, R: Source, W: Sink, V: Sink>(
     ensures unwritten { result ≡ Err Stop.ReadFault → Keeps (W.written out.old) (W.written out.new) }
     ensures order { SecondComesLast (option_copied job.now.script) (S.files surface.old job.now.surface.now)
         (over (S.faults surface.old) (S.faults surface.new)) script.old script.new }
-    ensures unread { (refusal : Refusal) → result ≡ Err (Stop.Refused refusal) → IsOfSurface refusal → script.new ≡ script.old }
-    ensures surface_left { StopsWithin surface_limit job.now.surface.now (reading (S.files surface.old) (S.left surface.old)
+    ensures unread { (refusal : Refusal) → result ≡ Err (Stop.Refused refusal) → IsOfSurface refusal
+        → script.new ≡ script.old }
+    ensures surface_left { StopsWithin surface_limit job.now.surface.now
+        (reading (S.files surface.old) (S.left surface.old)
         (S.left surface.new) (over (S.faults surface.old) (S.faults surface.new))) }
-    ensures script_left { (name : Items ℕ) → option_copied job.now.script ≡ Some name → (script.new ≡ script.old)
+    ensures script_left { (name : Items ℕ) → option_copied job.now.script ≡ Some name
+        → (script.new ≡ script.old)
         ⊎ StopsWithin script_limit name (reading (R.files script.old) (R.left script.old) (R.left script.new)
         (over (R.faults script.old) (R.faults script.new))) }
     ensures failed { (bytes : Items ℕ) → S.files surface.old job.now.surface.now ≡ Some bytes
@@ -102,12 +105,15 @@ fn answer_all<E: SurfaceSession, W: Sink, V: Sink>(
     requires tile { (least_tile ≤ job.now.tile) × (job.now.tile ≤ greatest_tile) }
     requires saved { ForSome (option_copied job.now.save) (λ name. IsTrue (V.allows saved.old name)) }
     ensures open { IsTrue (W.is_open out.new) }
-    ensures answers { AnswersAndSaves (option_copied job.now.save) (first_state (file_of file)) (lines_of script.now)
+    ensures answers { AnswersAndSaves (option_copied job.now.save) (first_state (file_of file))
+        (lines_of script.now)
         (saved.new ≡ saved.old)
         (saving (V.written saved.old) (V.written saved.new) (V.flushed saved.new) (over (V.faults saved.old) (V.faults saved.new)))
         result (W.written out.old) (W.written out.new) }
-    ensures cause { HasSinkStop (over (W.faults out.old) (W.faults out.new)) (over (V.faults saved.old) (V.faults saved.new)) result }
-    ensures saved { (surface script : Count) → Stays surface → Stays script → SavesLast (option_copied job.now.save) result (saved.new ≡ saved.old) surface script
+    ensures cause { HasSinkStop (over (W.faults out.old) (W.faults out.new))
+        (over (V.faults saved.old) (V.faults saved.new)) result }
+    ensures saved { (surface script : Count) → Stays surface → Stays script
+        → SavesLast (option_copied job.now.save) result (saved.new ≡ saved.old) surface script
         (over (W.faults out.old) (W.faults out.new))
         (saving (V.written saved.old) (V.written saved.new) (V.flushed saved.new) (over (V.faults saved.old) (V.faults saved.new))) }
 {
@@ -137,8 +143,10 @@ fn answer_and_save<E: SurfaceSession, W: Sink, V: Sink>(
         (saved.new ≡ saved.old)
         (saving (V.written saved.old) (V.written saved.new) (V.flushed saved.new) (over (V.faults saved.old) (V.faults saved.new)))
         result (W.written out.old) (W.written out.new) }
-    ensures cause { HasSinkStop (over (W.faults out.old) (W.faults out.new)) (over (V.faults saved.old) (V.faults saved.new)) result }
-    ensures saved { (surface script : Count) → Stays surface → Stays script → SavesLast (option_copied job.now.save) result (saved.new ≡ saved.old) surface script
+    ensures cause { HasSinkStop (over (W.faults out.old) (W.faults out.new))
+        (over (V.faults saved.old) (V.faults saved.new)) result }
+    ensures saved { (surface script : Count) → Stays surface → Stays script
+        → SavesLast (option_copied job.now.save) result (saved.new ≡ saved.old) surface script
         (over (W.faults out.old) (W.faults out.new))
         (saving (V.written saved.old) (V.written saved.new) (V.flushed saved.new) (over (V.faults saved.old) (V.faults saved.new))) }
 {

@@ -26,7 +26,8 @@ pub fn read_command(
 ) -> Result<Command, LineError>
     requires parts { All (IsPart line.now) words.now }
     requires few { length words.now < 2 ^ 16 }
-    ensures value { (result ≡ Err LineError.Memory) ⊎ (result ≡ read_by commands name.now (map (text_at line.now) words.now)) }
+    ensures value { (result ≡ Err LineError.Memory)
+        ⊎ (result ≡ read_by commands name.now (map (text_at line.now) words.now)) }
     ensures whole { IfOk result IsWhole }
 {
     if name == b"set".as_slice() {
@@ -54,7 +55,8 @@ fn read_later_command(
 ) -> Result<Command, LineError>
     requires parts { All (IsPart line.now) words.now }
     requires few { length words.now < 2 ^ 16 }
-    ensures value { (result ≡ Err LineError.Memory) ⊎ (result ≡ read_by later_commands name.now (map (text_at line.now) words.now)) }
+    ensures value { (result ≡ Err LineError.Memory)
+        ⊎ (result ≡ read_by later_commands name.now (map (text_at line.now) words.now)) }
     ensures whole { IfOk result IsWhole }
 {
     if name == b"dilate".as_slice() {
@@ -87,7 +89,8 @@ fn read_report_command(
     words: &[Span],
 ) -> Result<Command, LineError>
     requires parts { All (IsPart line.now) words.now }
-    ensures value { (result ≡ Err LineError.Memory) ⊎ (result ≡ read_by report_commands name.now (map (text_at line.now) words.now)) }
+    ensures value { (result ≡ Err LineError.Memory)
+        ⊎ (result ≡ read_by report_commands name.now (map (text_at line.now) words.now)) }
     ensures whole { IfOk result IsWhole }
 {
     if name == b"info".as_slice() {
@@ -116,7 +119,8 @@ fn read_pruning_command(
     words: &[Span],
 ) -> Result<Command, LineError>
     requires parts { All (IsPart line.now) words.now }
-    ensures value { (result ≡ Err LineError.Memory) ⊎ (result ≡ read_by pruning_commands name.now (map (text_at line.now) words.now)) }
+    ensures value { (result ≡ Err LineError.Memory)
+        ⊎ (result ≡ read_by pruning_commands name.now (map (text_at line.now) words.now)) }
     ensures whole { IfOk result IsWhole }
 {
     if name == b"prune".as_slice() {
@@ -141,7 +145,8 @@ fn read_value_command(
     words: &[Span],
 ) -> Result<Command, LineError>
     requires parts { All (IsPart line.now) words.now }
-    ensures value { (result ≡ Err LineError.Memory) ⊎ (result ≡ read_by value_commands name.now (map (text_at line.now) words.now)) }
+    ensures value { (result ≡ Err LineError.Memory)
+        ⊎ (result ≡ read_by value_commands name.now (map (text_at line.now) words.now)) }
     ensures whole { IfOk result IsWhole }
 {
     if name == b"param".as_slice() {

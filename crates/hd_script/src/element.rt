@@ -17,7 +17,8 @@ use std::alloc::Global;
 pub fn element_words(alloc: Global, line: &[u8], words: &[Span]) -> Result<Command, LineError>
     requires parts { All (IsPart line.now) words.now }
     requires few { length words.now < 2 ^ 16 }
-    ensures value { (result ≡ Err LineError.Memory) ⊎ (result ≡ element_words (map (text_at line.now) words.now)) }
+    ensures value { (result ≡ Err LineError.Memory)
+        ⊎ (result ≡ element_words (map (text_at line.now) words.now)) }
     ensures whole { IfOk result IsWhole }
 {
     let [name, width, height, entries @ ..] = words else {
@@ -39,7 +40,9 @@ fn element_command(
 ) -> Result<Command, LineError>
     requires parts { All (IsPart line.now) entries.now }
     requires few { length entries.now < 2 ^ 16 }
-    ensures value { (result ≡ Err LineError.Memory) ⊎ (result ≡ element_words (name.now ∷ width.now ∷ height.now ∷ map (text_at line.now) entries.now)) }
+    ensures value { (result ≡ Err LineError.Memory)
+        ⊎ (result ≡ element_words (name.now ∷ width.now ∷ height.now
+        ∷ map (text_at line.now) entries.now)) }
     ensures whole { IfOk result IsWhole }
 {
     let name = name_word(alloc, 2, name)?;
@@ -61,7 +64,8 @@ fn element_command(
 fn entry_words(alloc: Global, line: &[u8], words: &[Span]) -> Result<List<Option<i64>>, LineError>
     requires parts { All (IsPart line.now) words.now }
     requires few { length words.now < 2 ^ 16 }
-    ensures value { (result ≡ Err LineError.Memory) ⊎ (result ≡ entry_words 5 (map (text_at line.now) words.now)) }
+    ensures value { (result ≡ Err LineError.Memory)
+        ⊎ (result ≡ entry_words 5 (map (text_at line.now) words.now)) }
     ensures count { IfOk result (λ table. length table ≡ length words.now) }
     ensures entries { IfOk result (All IsEntry) }
 {

@@ -45,7 +45,8 @@ pub fn filter_words(
     filter: FilterWord,
 ) -> Result<Command, LineError>
     requires { All (IsPart line.now) words.now }
-    ensures value { (result ≡ Err LineError.Memory) ⊎ (result ≡ filter_words (edit_by filter) (map (text_at line.now) words.now)) }
+    ensures value { (result ≡ Err LineError.Memory)
+        ⊎ (result ≡ filter_words (edit_by filter) (map (text_at line.now) words.now)) }
     ensures whole { IfOk result IsWhole }
 {
     let [name] = words else {

@@ -39,7 +39,8 @@ pub fn read_line(alloc: Global, line: &[u8]) -> Result<Option<Command>, LineErro
 fn read_words(alloc: Global, line: &[u8], words: &[Span]) -> Result<Option<Command>, LineError>
     requires parts { All (IsPart line.now) words.now }
     requires few { length words.now < 2 ^ 16 }
-    ensures value { (result ≡ Err LineError.Memory) ⊎ (result ≡ words_give (map (text_at line.now) words.now)) }
+    ensures value { (result ≡ Err LineError.Memory)
+        ⊎ (result ≡ words_give (map (text_at line.now) words.now)) }
     ensures whole { IfOk result IsWholeIfAny }
 {
     let [name, words @ ..] = words else {

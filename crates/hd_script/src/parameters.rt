@@ -12,7 +12,8 @@ use std::alloc::Global;
 /// `param NAME` or `param NAME C`.
 pub fn param_words(alloc: Global, line: &[u8], words: &[Span]) -> Result<Command, LineError>
     requires { All (IsPart line.now) words.now }
-    ensures value { (result ≡ Err LineError.Memory) ⊎ (result ≡ param_words (map (text_at line.now) words.now)) }
+    ensures value { (result ≡ Err LineError.Memory)
+        ⊎ (result ≡ param_words (map (text_at line.now) words.now)) }
     ensures whole { IfOk result IsWhole }
 {
     match words {
@@ -32,7 +33,8 @@ pub fn param_words(alloc: Global, line: &[u8], words: &[Span]) -> Result<Command
 /// `feature WORD`.
 pub fn feature_words(alloc: Global, line: &[u8], words: &[Span]) -> Result<Command, LineError>
     requires { All (IsPart line.now) words.now }
-    ensures value { (result ≡ Err LineError.Memory) ⊎ (result ≡ feature_words (map (text_at line.now) words.now)) }
+    ensures value { (result ≡ Err LineError.Memory)
+        ⊎ (result ≡ feature_words (map (text_at line.now) words.now)) }
     ensures whole { IfOk result IsWhole }
 {
     let [word] = words else {
@@ -45,7 +47,8 @@ pub fn feature_words(alloc: Global, line: &[u8], words: &[Span]) -> Result<Comma
 /// `height NAME` or `height NAME C`.
 pub fn height_words(alloc: Global, line: &[u8], words: &[Span]) -> Result<Command, LineError>
     requires { All (IsPart line.now) words.now }
-    ensures value { (result ≡ Err LineError.Memory) ⊎ (result ≡ height_words (map (text_at line.now) words.now)) }
+    ensures value { (result ≡ Err LineError.Memory)
+        ⊎ (result ≡ height_words (map (text_at line.now) words.now)) }
     ensures whole { IfOk result IsWhole }
 {
     match words {
@@ -65,7 +68,8 @@ pub fn height_words(alloc: Global, line: &[u8], words: &[Span]) -> Result<Comman
 /// `hist N WORD`.
 pub fn hist_words(alloc: Global, line: &[u8], words: &[Span]) -> Result<Command, LineError>
     requires { All (IsPart line.now) words.now }
-    ensures value { (result ≡ Err LineError.Memory) ⊎ (result ≡ hist_words (map (text_at line.now) words.now)) }
+    ensures value { (result ≡ Err LineError.Memory)
+        ⊎ (result ≡ hist_words (map (text_at line.now) words.now)) }
     ensures whole { IfOk result IsWhole }
 {
     let [bins, word] = words else {
@@ -79,7 +83,8 @@ pub fn hist_words(alloc: Global, line: &[u8], words: &[Span]) -> Result<Command,
 /// `perc V WORD`.
 pub fn perc_words(alloc: Global, line: &[u8], words: &[Span]) -> Result<Command, LineError>
     requires { All (IsPart line.now) words.now }
-    ensures value { (result ≡ Err LineError.Memory) ⊎ (result ≡ perc_words (map (text_at line.now) words.now)) }
+    ensures value { (result ≡ Err LineError.Memory)
+        ⊎ (result ≡ perc_words (map (text_at line.now) words.now)) }
     ensures whole { IfOk result IsWhole }
 {
     let [above, word] = words else {

@@ -152,7 +152,8 @@ pub fn whole_text(alloc: Global, word: &[u8]) -> Result<List<u8>, LineError>
 
 // Whether a word is a name.
 fn is_name(word: &[u8]) -> bool
-    ensures { result ≡ nat_le 1 (length word.now) && nat_le (length word.now) 32 && list_all is_name_byte word.now }
+    ensures { result ≡ nat_le 1 (length word.now) && nat_le
+        (length word.now) 32 && list_all is_name_byte word.now }
 {
     if word.is_empty() || 32 < word.len() {
         return false;

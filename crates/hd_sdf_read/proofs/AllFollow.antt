@@ -1,5 +1,6 @@
 -- Entries without an offence, one after another.
-use Rattle.std.proofs.Common.{◌≡◌, ◌+◌, ◌≤◌, ℕ, Bool, true, false, not, List, [], ◌∷◌, ◌++◌, length, cond, leb, Option, Some, None, refl, sym, ap, subst, arith, ◌∙◌, inl, inr, length-append, append_assoc, append-nil}
+use Rattle.std.proofs.Common.{◌≡◌, ◌+◌, ◌≤◌, ℕ, Bool, true, false, not, List, [], ◌∷◌, ◌++◌, length, cond, leb, Option, Some, None, refl, sym, ap, subst}
+use Rattle.std.proofs.Common.{arith, ◌∙◌, inl, inr, length-append, append_assoc, append-nil}
 use Rattle.std.specs.Prelude.{is_none}
 use Rattle.std.specs.List.{list_all, list_any}
 use Rattle.std.proofs.lemmas.Bool.{and_from, and_parts, or_from, or_parts, cases_Bool, leb-true, not-true}
@@ -56,7 +57,8 @@ extra_offence n before e new unknown few =
     ap (λ b. cond b (Some (KeyTwice n)) (value_offence n before (form_of e.key) e.value)) new ∙ unknown_offence n before e.value (form_of e.key) unknown few
 
 -- extra keys without an offence
-pub AllFollow-extra : (es before : List Extra) → length (extra_entries before) + length es ≤ 240 → list_all is_extra es ≡ true → are_apart es ≡ true → AllFollow-new before es ≡ true → AllFollow before es
+pub AllFollow-extra : (es before : List Extra) → length (extra_entries before) + length es ≤ 240 → list_all is_extra es ≡ true → are_apart es ≡ true
+    → AllFollow-new before es ≡ true → AllFollow before es
 AllFollow-extra [] before few good apart new = tt
 AllFollow-extra (e ∷ es) before few good apart new =
     let goods = and_parts (is_extra e) (list_all is_extra es) good in

@@ -1,5 +1,6 @@
 -- Data that are kept as cells stand for those that were read.
-use Rattle.std.proofs.Common.{◌≡◌, ◌+◌, ◌-◌, ◌*◌, ◌^◌, ◌≤◌, ◌*ℤ◌, ℕ, ℤ, zero, suc, pos, int_lt, unsigned_abs, Bool, true, false, ◌&&◌, ◌||◌, List, [], ◌∷◌, ◌++◌, length, Ok, Err, inl, inr, refl, sym, ap, ap₂, subst, arith, ◌∙◌, length-append}
+use Rattle.std.proofs.Common.{◌≡◌, ◌+◌, ◌-◌, ◌*◌, ◌^◌, ◌≤◌, ◌*ℤ◌, ℕ, ℤ, zero, suc, pos, int_lt, unsigned_abs, Bool, true, false, ◌&&◌, ◌||◌, List, []}
+use Rattle.std.proofs.Common.{◌∷◌, ◌++◌, length, Ok, Err, inl, inr, refl, sym, ap, ap₂, subst, arith, ◌∙◌, length-append}
 use Rattle.std.specs.Prelude.{Result, nat_le}
 use Rattle.std.specs.List.{list_all}
 use Rattle.std.proofs.lemmas.Bool.{cases_Bool, cases_lt, le-leb, lt-leb}
@@ -18,7 +19,8 @@ use Rattle.hd_sdf_read.specs.declared.scaled.Datum.{Datum}
 use Rattle.hd_sdf_read.specs.declared.scaled.Datum.TheVariants.{Measured, Unmeasured}
 use Rattle.hd_sdf_read.specs.declared.scaled.Scaled.{Scaled}
 use Rattle.hd_sdf_read.specs.Bodies.{decimal_in, trailed}
-use Rattle.hd_sdf_read.specs.Decimals.{data_for, datum_for, are_in_range, cell_at, cells_at, data_with, datum_of, decimals_from, greatest_in, most_places, most_places_in, most_steps, places_in, ranged, steps_at}
+use Rattle.hd_sdf_read.specs.Decimals.{data_for, datum_for, are_in_range, cell_at, cells_at, data_with, datum_of, decimals_from, greatest_in}
+use Rattle.hd_sdf_read.specs.Decimals.{most_places, most_places_in, most_steps, places_in, ranged, steps_at}
 use Rattle.hd_sdf_read.specs.Grammar.{decimal_map}
 use Rattle.hd_sdf_read.specs.Reads.{◌>>=◌}
 use Rattle.hd_sdf_read.specs.Scaling.{IsScaled}

@@ -38,7 +38,8 @@ trailer_same : (count : ℕ) (a b : List ℕ) → without_start is_gap a ≡ wit
 unfolding trailer_of
 trailer_same count a b same = rw (token_of-same a b same, after_token-same a b same) refl
 
-pub trailed-same : (size : Size) (map : Map) (a b : List ℕ) → without_start is_gap a ≡ without_start is_gap b → trailed size (record { map = map; rest = a }) ≡ trailed size (record { map = map; rest = b })
+pub trailed-same : (size : Size) (map : Map) (a b : List ℕ) → without_start is_gap a ≡ without_start is_gap b
+    → trailed size (record { map = map; rest = a }) ≡ trailed size (record { map = map; rest = b })
 unfolding trailed
 trailed-same size map a b same = rw (trailer_same (cell_count size) a b same) refl
 
@@ -125,7 +126,8 @@ pub Ends-none : Ends []
 Ends-none = λ none. absurd (omega arith)
 
 -- what is read on is what is read on from a later place
-pub FeedsBody-from : (old mid : Body) (text rest : List ℕ) (result : Result Body SdfError) → ((more : List ℕ) → body_on old (text ++ more) ≡ body_on mid (rest ++ more)) → FeedsBody mid rest result → FeedsBody old text result
+pub FeedsBody-from : (old mid : Body) (text rest : List ℕ) (result : Result Body SdfError) → ((more : List ℕ) → body_on old (text ++ more) ≡ body_on mid (rest ++ more))
+    → FeedsBody mid rest result → FeedsBody old text result
 FeedsBody-from old mid text rest (Ok new) same fed = λ more. same more ∙ fed more
 FeedsBody-from old mid text rest (Err e) same fed = λ refused more. same more ∙ fed refused more
 

@@ -13,7 +13,8 @@ with_front-push front cell (Ok more) = ap (λ cells. Ok (record { cells = cells;
 with_front-push front cell (Err e) = refl
 
 -- the next datum is read
-pub cells_from-more : (least greatest : ℤ) (read count : ℕ) (text rest : List ℕ) (front : List Cell) (cell : Cell) → read < count → datum_at least greatest read text ≡ Ok cell → rest ≡ after_token text
+pub cells_from-more : (least greatest : ℤ) (read count : ℕ) (text rest : List ℕ) (front : List Cell) (cell : Cell) → read < count → datum_at least greatest read text ≡ Ok cell
+    → rest ≡ after_token text
     → with_front front (cells_from least greatest read (count - read) text) ≡ with_front (front ++ cell ∷ []) (cells_from least greatest (read + 1) (count - (read + 1)) rest)
 unfolding cells_from
 cells_from-more least greatest read count text rest front cell before found is =
@@ -29,7 +30,8 @@ cells_from-stop least greatest read count text front e before wrong =
     rw (step, wrong) refl
 
 -- all data are read
-pub cells_from-done : (least greatest : ℤ) (read count : ℕ) (text : List ℕ) (front : List Cell) → count ≤ read → with_front front (cells_from least greatest read (count - read) text) ≡ Ok (record { cells = front; rest = text })
+pub cells_from-done : (least greatest : ℤ) (read count : ℕ) (text : List ℕ) (front : List Cell) → count ≤ read
+    → with_front front (cells_from least greatest read (count - read) text) ≡ Ok (record { cells = front; rest = text })
 unfolding cells_from
 cells_from-done least greatest read count text front all =
     let none : count - read ≡ 0 = omega arith in

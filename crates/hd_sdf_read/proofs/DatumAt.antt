@@ -36,7 +36,8 @@ height_cell-fits t n (Is h) cell e = elim (cases_Bool (int_le (least_height t) h
 ]
 
 -- the cell of a datum is of the type
-pub datum_at-fits : (t : DataType) (least greatest : ℤ) (read : ℕ) (text : List ℕ) (cell : Cell) → least ≡ least_height t → greatest ≡ greatest_height t → datum_at least greatest read text ≡ Ok cell → IsCellOf t cell
+pub datum_at-fits : (t : DataType) (least greatest : ℤ) (read : ℕ) (text : List ℕ) (cell : Cell) → least ≡ least_height t → greatest ≡ greatest_height t
+    → datum_at least greatest read text ≡ Ok cell → IsCellOf t cell
 unfolding datum_at
 datum_at-fits t least greatest read text cell low high e = elim (cases_Bool (eqb (length (token_of text)) 0 || is_star (token_of text))) [
   | inl none ↦ let wrong : Err (TooFewData read) ≡ Ok cell = sym (rw none refl) ∙ e in cc

@@ -82,12 +82,14 @@ data_of-count s = length-map (wide_cells_in s.cells) (datum_for s.places)
 pub Pushes-scaled : (old new : Scaled) (t : DataType) (number : ℕ) (d : Datum) → IsScaled old t (data_of old) → Pushes old new number d (Ok tt) → IsScaled new t (data_of new)
 Pushes-scaled old new t number d kept pushes = IsScaled-kept_again new t (data_of old ++ d ∷ []) (pushes t (data_of old) kept).1
 
-pub Pushes-count : (old new : Scaled) (t : DataType) (number : ℕ) (d : Datum) → IsScaled old t (data_of old) → Pushes old new number d (Ok tt) → length (wide_cells_in new.cells) ≡ length (wide_cells_in old.cells) + 1
+pub Pushes-count : (old new : Scaled) (t : DataType) (number : ℕ) (d : Datum) → IsScaled old t (data_of old) → Pushes old new number d (Ok tt)
+    → length (wide_cells_in new.cells) ≡ length (wide_cells_in old.cells) + 1
 Pushes-count old new t number d kept pushes =
     let both = (pushes t (data_of old) kept).1 in
     sym (data_of-count new) ∙ sym (AreAlike-kept new t (data_of old ++ d ∷ []) both).count ∙ length-append (data_of old) (d ∷ []) ∙ ap (λ n. n + 1) (data_of-count old)
 
-pub decimal_in-pushed : (size : Size) (old new : Scaled) (t : DataType) (number : ℕ) (d : Datum) (text rest : List ℕ) → IsScaled old t (data_of old) → Pushes old new number d (Ok tt) → length (wide_cells_in old.cells) < cell_count size
+pub decimal_in-pushed : (size : Size) (old new : Scaled) (t : DataType) (number : ℕ) (d : Datum) (text rest : List ℕ) → IsScaled old t (data_of old)
+    → Pushes old new number d (Ok tt) → length (wide_cells_in old.cells) < cell_count size
     → IsNextDatum (length (wide_cells_in old.cells)) text d → rest ≡ after_token text → decimal_in size t (data_of old) text ≡ decimal_in size t (data_of new) rest
 decimal_in-pushed size old new t number d text rest kept pushes more next is =
     let both = pushes t (data_of old) kept in
@@ -116,17 +118,20 @@ pub record HasDecimalsOn (size : Size) (t : DataType) (old : Scaled) (text : Lis
   pub kept : IsScaled new t (data_of new)
   pub count : length (wide_cells_in new.cells) ≡ read
 
-pub HasDecimalsOn-some : (size : Size) (t : DataType) (old : Scaled) (text : List ℕ) (read : ℕ) → IsScaled old t (data_of old) → length (wide_cells_in old.cells) ≡ read → HasDecimalsOn size t old text old text read
+pub HasDecimalsOn-some : (size : Size) (t : DataType) (old : Scaled) (text : List ℕ) (read : ℕ) → IsScaled old t (data_of old) → length (wide_cells_in old.cells) ≡ read
+    → HasDecimalsOn size t old text old text read
 HasDecimalsOn-some size t old text read kept count = record { same = λ more. refl; kept = kept; count = count }
 
 module _ (size : Size) (t : DataType) (old : Scaled) (text : List ℕ) (new : Scaled) (rest : List ℕ) (read : ℕ) (has : HasDecimalsOn size t old text new rest read) where
-  module _ (inside : read < cell_count size) (next : Scaled) (d : Datum) (after : List ℕ) (given : (more : List ℕ) → IsNextDatum read (rest ++ more) d × (after ++ more ≡ after_token (rest ++ more))) where
+  module _ (inside : read < cell_count size) (next : Scaled) (d : Datum) (after : List ℕ) (given : (more : List ℕ) → IsNextDatum read (rest ++ more) d
+      × (after ++ more ≡ after_token (rest ++ more))) where
     pub HasDecimalsOn-another : Pushes new next (read + 1) d (Ok tt) → HasDecimalsOn size t old text next after (read + 1)
     HasDecimalsOn-another pushes =
         let count = has.count in
         record {
           same = λ more.
-              has.same more ∙ decimal_in-pushed size new next t (read + 1) d (rest ++ more) (after ++ more) has.kept pushes (omega (arith, count, inside)) (subst (λ n. IsNextDatum n (rest ++ more) d) (sym count) (given more).0) (given more).1;
+              has.same more ∙ decimal_in-pushed size new next t (read + 1) d (rest ++ more) (after ++ more) has.kept pushes (omega (arith, count, inside))
+              (subst (λ n. IsNextDatum n (rest ++ more) d) (sym count) (given more).0) (given more).1;
           kept = Pushes-scaled new next t (read + 1) d has.kept pushes;
           count = Pushes-count new next t (read + 1) d has.kept pushes ∙ ap (λ n. n + 1) count;
         }
@@ -167,12 +172,14 @@ module _ (size : Size) (t : DataType) (old : Scaled) (word : List ℕ) (kept : I
       decimal_in-stop size t (data_of old) (word ++ rest) (TooFewData (length (wide_cells_in old.cells))) (omega (arith, place, missing)) (rw (token, filled_word, star, place) refl)
 
   module _ (other : is_star word ≡ false) where
-    word_next : (d : Datum) (rest : List ℕ) → Ends rest → datum_of (length (wide_cells_in old.cells) + 1) word ≡ Ok d → Rattle.hd_sdf_read.specs.Decimals.IsSmall d → IsNextDatum (length (wide_cells_in old.cells)) (word ++ rest) d
+    word_next : (d : Datum) (rest : List ℕ) → Ends rest → datum_of (length (wide_cells_in old.cells) + 1) word ≡ Ok d → Rattle.hd_sdf_read.specs.Decimals.IsSmall d
+        → IsNextDatum (length (wide_cells_in old.cells)) (word ++ rest) d
     word_next d rest ends is small =
         let token = token_of-here word rest some gapless ends in
         record { some = ap is_absent token ∙ filled_word; other = ap is_star token ∙ other; datum = ap (datum_of (length (wide_cells_in old.cells) + 1)) token ∙ is; small = small }
 
-    pub TakesDatum-pushed : (new : Scaled) (number : ℕ) (d : Datum) → datum_of (length (wide_cells_in old.cells) + 1) word ≡ Ok d → Rattle.hd_sdf_read.specs.Decimals.IsSmall d → Pushes old new number d (Ok tt) → TakesDatum size t old word new
+    pub TakesDatum-pushed : (new : Scaled) (number : ℕ) (d : Datum) → datum_of (length (wide_cells_in old.cells) + 1) word ≡ Ok d → Rattle.hd_sdf_read.specs.Decimals.IsSmall d
+        → Pushes old new number d (Ok tt) → TakesDatum size t old word new
     TakesDatum-pushed new number d is small pushes = record {
       same = λ rest ends.
           decimal_in-pushed size old new t number d (word ++ rest) rest kept pushes missing (word_next d rest ends is small) (sym (after_token-here word rest some gapless ends));
@@ -180,19 +187,22 @@ module _ (size : Size) (t : DataType) (old : Scaled) (word : List ℕ) (kept : I
       count = Pushes-count old new t number d kept pushes;
     }
 
-    pub decimal_in-wrong_datum : (new : Scaled) (number : ℕ) (d : Datum) (e : SdfError) → number ≡ length (wide_cells_in old.cells) + 1 → datum_of (length (wide_cells_in old.cells) + 1) word ≡ Ok d → Rattle.hd_sdf_read.specs.Decimals.IsSmall d
+    pub decimal_in-wrong_datum : (new : Scaled) (number : ℕ) (d : Datum) (e : SdfError) → number ≡ length (wide_cells_in old.cells) + 1
+        → datum_of (length (wide_cells_in old.cells) + 1) word ≡ Ok d → Rattle.hd_sdf_read.specs.Decimals.IsSmall d
         → Pushes old new number d (Err e) → (e ≡ Memory → ⊥) → (rest : List ℕ) → Ends rest → decimal_in size t (data_of old) (word ++ rest) ≡ Err e
     decimal_in-wrong_datum new number d e number_is is small pushes refused rest ends =
         decimal_in-wrong size t (data_of old) (word ++ rest) d e (omega (arith, place, missing)) (subst (λ n. IsNextDatum n (word ++ rest) d) (sym place) (word_next d rest ends is small))
         (pushes t (data_of old) kept (number_is ∙ ap (λ n. n + 1) (sym place)) refused)
 
     pub decimal_in-stop_datum : (number : ℕ) (e : SdfError) → number ≡ length (wide_cells_in old.cells) + 1
-        → ((before : List Datum) → number ≡ length before + 1 → (datum_of number word >>= (λ datum. ranged (before ++ datum ∷ []))) ≡ Err e) → (rest : List ℕ) → Ends rest → decimal_in size t (data_of old) (word ++ rest) ≡ Err e
+        → ((before : List Datum) → number ≡ length before + 1 → (datum_of number word >>= (λ datum. ranged (before ++ datum ∷ []))) ≡ Err e) → (rest : List ℕ) → Ends rest
+        → decimal_in size t (data_of old) (word ++ rest) ≡ Err e
     decimal_in-stop_datum number e number_is wrong rest ends =
         let token = token_of-here word rest some gapless ends in
         let here : number ≡ length (data_of old) + 1 = number_is ∙ ap (λ n. n + 1) (sym place) in
         decimal_in-stop size t (data_of old) (word ++ rest) e (omega (arith, place, missing))
-        (ap (data_with (data_of old)) token ∙ data_with-token (data_of old) word filled_word other ∙ ap (λ n. datum_of n word >>= (λ datum. ranged (data_of old ++ datum ∷ []))) (sym here) ∙ wrong (data_of old) here)
+        (ap (data_with (data_of old)) token ∙ data_with-token (data_of old) word filled_word other
+        ∙ ap (λ n. datum_of n word >>= (λ datum. ranged (data_of old ++ datum ∷ []))) (sym here) ∙ wrong (data_of old) here)
 
 -- all data are kept as the cells of a map
 pub decimal_in-whole : (size : Size) (t : DataType) (s : Scaled) (text : List ℕ) → IsScaled s t (data_of s) → length (wide_cells_in s.cells) ≡ cell_count size
@@ -203,7 +213,8 @@ decimal_in-whole size t s text kept all =
     ∙ ap₂ (λ (x : DataType) (cs : List Cell). trailed size (record { map = map_with size x cs; rest = text })) (sym kept.data_type) (sym kept.cells)
 
 -- nothing follows, where data are missing
-pub decimal_in-none : (size : Size) (t : DataType) (s : Scaled) → length (wide_cells_in s.cells) < cell_count size → decimal_in size t (data_of s) [] ≡ Err (TooFewData (length (wide_cells_in s.cells)))
+pub decimal_in-none : (size : Size) (t : DataType) (s : Scaled) → length (wide_cells_in s.cells) < cell_count size
+    → decimal_in size t (data_of s) [] ≡ Err (TooFewData (length (wide_cells_in s.cells)))
 decimal_in-none size t s missing =
     let count = data_of-count s in
     decimal_in-nothing size t (data_of s) (omega (arith, count, missing)) ∙ ap (λ n. Err (TooFewData n)) count

@@ -1,5 +1,6 @@
 -- Decimals at the front of a text.
-use Rattle.std.proofs.Common.{◌≡◌, ◌+◌, ◌*◌, ◌<◌, ◌≤◌, ◌^◌, ℕ, zero, suc, pos, neg_ℤ, Bool, true, false, eqb, List, [], ◌∷◌, ◌++◌, length, take, drop, get_or, Some, refl, sym, ap, ap₂, subst, ◌∙◌, arith, inl, inr, length-append}
+use Rattle.std.proofs.Common.{◌≡◌, ◌+◌, ◌*◌, ◌<◌, ◌≤◌, ◌^◌, ℕ, zero, suc, pos, neg_ℤ, Bool, true, false, eqb, List, [], ◌∷◌, ◌++◌, length, take, drop}
+use Rattle.std.proofs.Common.{get_or, Some, refl, sym, ap, ap₂, subst, ◌∙◌, arith, inl, inr, length-append}
 use Rattle.std.specs.Char.{is_ascii_digit}
 use Rattle.std.specs.List.{list_all, list_any, position_or_len}
 use Rattle.std.specs.Str.Parse.{starts_with_minus, without_leading_sign}
@@ -79,7 +80,8 @@ tail_size true fraction bare = (omega arith, omega arith)
 tail_size false fraction bare = let none : length fraction ≡ 0 = ap length (bare refl) in (omega (arith, none), omega arith)
 
 -- digits with a sign or none and a point or none, up to a gap or the end
-pub TakesDecimal-taken : (text unsigned rest : List ℕ) (units places : ℕ) (negative : Bool) → unsigned ≡ without_leading_sign text → AreUnits unsigned units places rest → (0 < length rest → is_gap (get_or rest 0 0) ≡ true)
+pub TakesDecimal-taken : (text unsigned rest : List ℕ) (units places : ℕ) (negative : Bool) → unsigned ≡ without_leading_sign text → AreUnits unsigned units places rest
+    → (0 < length rest → is_gap (get_or rest 0 0) ≡ true)
     → negative ≡ starts_with_minus text → units ≤ most_steps → TakesDecimal text rest (Measured negative units places)
 TakesDecimal-taken text unsigned rest units places negative is are ends minus small =
     let tail : List ℕ = pointed are.point are.fraction in

@@ -1,5 +1,6 @@
 -- Decimals, token by token.
-use Rattle.std.proofs.Common.{◌≡◌, ◌+◌, ◌-◌, ◌*◌, ◌<◌, ◌≤◌, ◌^◌, ℕ, suc, true, false, eqb, List, [], ◌∷◌, ◌++◌, length, take, drop, get_or, Some, None, Ok, Err, inl, inr, refl, sym, ap, ap₂, ◌∙◌, arith, length-append, append_assoc}
+use Rattle.std.proofs.Common.{◌≡◌, ◌+◌, ◌-◌, ◌*◌, ◌<◌, ◌≤◌, ◌^◌, ℕ, suc, true, false, eqb, List, [], ◌∷◌, ◌++◌, length, take, drop, get_or, Some, None}
+use Rattle.std.proofs.Common.{Ok, Err, inl, inr, refl, sym, ap, ap₂, ◌∙◌, arith, length-append, append_assoc}
 use Rattle.std.specs.Prelude.{bytes_eq, codes}
 use Rattle.std.specs.Char.{is_ascii_digit}
 use Rattle.std.specs.List.{list_all}
@@ -29,7 +30,8 @@ use Rattle.hd_sdf_read.proofs.WholeFronts.{after_token-front, token_of-front}
 use Rattle.hd_sdf_read.proofs.Scaling.{ranged-not_small}
 
 -- a decimal that alone is out of range, behind others
-pub datum_of-out : (number : ℕ) (token : List ℕ) (d : Decimal) (before : List Datum) → bytes_eq token (codes "BAD") ≡ false → Some d ≡ decimal_of token → (IsSmall (measured d) → ⊥) → number ≡ length before + 1
+pub datum_of-out : (number : ℕ) (token : List ℕ) (d : Decimal) (before : List Datum) → bytes_eq token (codes "BAD") ≡ false → Some d ≡ decimal_of token → (IsSmall (measured d) → ⊥)
+    → number ≡ length before + 1
     → (datum_of number token >>= (λ datum. ranged (before ++ datum ∷ []))) ≡ Err (DatumRange number)
 datum_of-out number token d before other is great number_is = rw (other, ← is) (ranged-not_small before (measured d) number great number_is)
 
@@ -74,7 +76,8 @@ decimals_from-done before read count text all =
     rw none refl
 
 -- no token is left
-pub data_with-absent : (before : List Datum) (read : ℕ) (text token : List ℕ) → token ≡ token_of text → is_absent token ≡ true → length before ≡ read → data_with before (token_of text) ≡ Err (TooFewData read)
+pub data_with-absent : (before : List Datum) (read : ℕ) (text token : List ℕ) → token ≡ token_of text → is_absent token ≡ true → length before ≡ read
+    → data_with before (token_of text) ≡ Err (TooFewData read)
 unfolding data_with
 data_with-absent before read text token is none read_is = rw (← is, none, read_is) refl
 
@@ -88,7 +91,8 @@ data_with-star before read text token is some star read_is = rw (← is, some, s
 pub data_with-stop : (before : List Datum) (read : ℕ) (text token : List ℕ) (e : SdfError) → token ≡ token_of text → is_absent token ≡ false → is_star token ≡ false → length before ≡ read
     → ((before : List Datum) → read + 1 ≡ length before + 1 → (datum_of (read + 1) token >>= (λ datum. ranged (before ++ datum ∷ []))) ≡ Err e) → data_with before (token_of text) ≡ Err e
 data_with-stop before read text token e is some other read_is wrong =
-    ap (data_with before) (sym is) ∙ data_with-token before token some other ∙ ap (λ n. datum_of (n + 1) token >>= (λ datum. ranged (before ++ datum ∷ []))) read_is ∙ wrong before (ap (λ n. n + 1) (sym read_is))
+    ap (data_with before) (sym is) ∙ data_with-token before token some other ∙ ap (λ n. datum_of (n + 1) token >>= (λ datum. ranged (before ++ datum ∷ []))) read_is
+    ∙ wrong before (ap (λ n. n + 1) (sym read_is))
 
 -- a decimal is no other word
 pub decimal_of-apart : (word token : List ℕ) (d : Decimal) → decimal_of word ≡ None → decimal_of token ≡ Some d → bytes_eq token word ≡ false
@@ -123,7 +127,8 @@ IsNextDatum-given read text front rest d is taken =
 module _ (whole fraction : List ℕ) (first part : ℕ) (all : list_all is_ascii_digit whole ≡ true) (more : list_all is_ascii_digit fraction ≡ true) (few : length whole + length fraction ≤ 18)
     (first_is : first ≡ digits_value 10 whole) (part_is : part ≡ digits_value 10 fraction) where
   pub digits_value-pointed : first * 10 ^ length fraction + part ≡ digits_value 10 (whole ++ fraction)
-  digits_value-pointed = sym (digits_value_after-append 0 whole fraction ∙ digits_value_after-split (digits_value 10 whole) fraction ∙ ap₂ (λ a b. a * 10 ^ length fraction + b) (sym first_is) (sym part_is))
+  digits_value-pointed = sym (digits_value_after-append 0 whole fraction ∙ digits_value_after-split (digits_value 10 whole) fraction
+      ∙ ap₂ (λ a b. a * 10 ^ length fraction + b) (sym first_is) (sym part_is))
 
   pub digits_value-pointed_small : first * 10 ^ length fraction + part < 1000000000000000000
   digits_value-pointed_small =
@@ -133,7 +138,8 @@ module _ (whole fraction : List ℕ) (first part : ℕ) (all : list_all is_ascii
 
 -- digits with a point
 pub AreUnits-pointed : (text after fraction rest : List ℕ) (count places first part : ℕ) → count ≤ length text → places ≤ length fraction → 1 ≤ count + places → count + places ≤ 18
-    → list_all is_ascii_digit (take count text) ≡ true → list_all is_ascii_digit (take places fraction) ≡ true → first ≡ digits_value 10 (take count text) → part ≡ digits_value 10 (take places fraction)
+    → list_all is_ascii_digit (take count text) ≡ true → list_all is_ascii_digit (take places fraction) ≡ true → first ≡ digits_value 10 (take count text)
+    → part ≡ digits_value 10 (take places fraction)
     → after ≡ drop count text → after ≡ 46 ∷ fraction → rest ≡ drop places fraction
     → AreUnits text (first * 10 ^ places + part) places rest
 AreUnits-pointed text after fraction rest count places first part inside within some few IsNumeralModel-digits more first_is part_is after_is point rest_is =
@@ -169,7 +175,8 @@ pub record HasRead (s : Scaled) (t : DataType) (read count : ℕ) (rest text : L
   pub left : decimals_from items (count - read) rest ≡ decimals_from [] count text
 
 -- one more is read
-pub HasRead-more : (old new : Scaled) (t : DataType) (read count : ℕ) (rest after text : List ℕ) (d : Datum) → HasRead old t read count rest text → read < count → IsNextDatum read rest d → after ≡ after_token rest
+pub HasRead-more : (old new : Scaled) (t : DataType) (read count : ℕ) (rest after text : List ℕ) (d : Datum) → HasRead old t read count rest text → read < count
+    → IsNextDatum read rest d → after ≡ after_token rest
     → Pushes old new (read + 1) d (Ok tt) → HasRead new t (read + 1) count after text
 HasRead-more old new t read count rest after text d has more next is pushes =
     let both = pushes t has.items has.kept in

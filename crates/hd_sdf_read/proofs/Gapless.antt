@@ -1,5 +1,6 @@
 -- Texts without blanks and LFs: numbers.
-use Rattle.std.proofs.Common.{◌≡◌, ◌+◌, ◌-◌, ◌<◌, ◌≤◌, ℕ, ℤ, suc, Bool, true, false, not, List, [], ◌∷◌, length, drop, get_or, eqb, leb, cond, Some, None, refl, sym, ap, arith, ◌∙◌, inl, inr, length-take}
+use Rattle.std.proofs.Common.{◌≡◌, ◌+◌, ◌-◌, ◌<◌, ◌≤◌, ℕ, ℤ, suc, Bool, true, false, not, List, [], ◌∷◌, length, drop, get_or, eqb, leb, cond, Some}
+use Rattle.std.proofs.Common.{None, refl, sym, ap, arith, ◌∙◌, inl, inr, length-take}
 use Rattle.std.specs.Char.{is_ascii_digit}
 use Rattle.std.specs.List.{after_first, before_first, list_all, list_any, position_or_len}
 use Rattle.std.specs.Str.Parse.{signed_digits_value, without_leading_sign}
@@ -73,7 +74,8 @@ whole_of-some [] h number = let wrong : Not ≡ Is h = number in cc
 whole_of-some (x ∷ xs) h number = omega arith
 
 -- a text without gaps before and after the first byte that passes, where such bytes are no gaps
-cut_gapless : (test : ℕ → Bool) → ((x : ℕ) → test x ≡ true → is_gap x ≡ false) → (text : List ℕ) → list_any is_gap (before_first test text) ≡ false → list_any is_gap (after_first test text) ≡ false → list_any is_gap text ≡ false
+cut_gapless : (test : ℕ → Bool) → ((x : ℕ) → test x ≡ true → is_gap x ≡ false) → (text : List ℕ) → list_any is_gap (before_first test text) ≡ false
+    → list_any is_gap (after_first test text) ≡ false → list_any is_gap text ≡ false
 cut_gapless test marks [] before after = refl
 cut_gapless test marks (x ∷ xs) before after = elim (cases_Bool (test x)) [
   | inl passes ↦ or_from _ _ (marks x passes) (rw passes at after)

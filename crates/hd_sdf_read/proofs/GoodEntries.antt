@@ -1,5 +1,6 @@
 -- What a header gives has the forms of a file.
-use Rattle.std.proofs.Common.{◌≡◌, ◌+◌, ◌<◌, ◌≤◌, ◌||◌, ◌&&◌, ℕ, Bool, true, false, not, List, [], ◌∷◌, ◌++◌, length, get_or, eqb, ltb, leb, cond, map, Option, Some, None, refl, sym, ap, subst, arith, ◌∙◌, inl, inr, length-append, length-take}
+use Rattle.std.proofs.Common.{◌≡◌, ◌+◌, ◌<◌, ◌≤◌, ◌||◌, ◌&&◌, ℕ, Bool, true, false, not, List, [], ◌∷◌, ◌++◌, length, get_or, eqb, ltb, leb, cond, map}
+use Rattle.std.proofs.Common.{Option, Some, None, refl, sym, ap, subst, arith, ◌∙◌, inl, inr, length-append, length-take}
 use Rattle.std.specs.Prelude.{bytes_eq, codes, is_none, unwrap_or}
 use Rattle.std.specs.List.{after_first, before_first, list_all, list_any, position_or_len}
 use Rattle.std.proofs.lemmas.Bool.{and_from, and_left, and_parts, and_right, cases_Bool, cases_lt, le-ltb, lt-ltb, not-true, or_parts}
@@ -14,7 +15,8 @@ use Rattle.hd_sdf_read.specs.declared.error.SdfError.TheVariants.{KeyTwice, TooM
 use Rattle.std.proofs.lemmas.Slice.Eq.{bytes_eq-Decides}
 use Rattle.hd_num.specs.Lines.{is_blank, is_line_feed, trimmed}
 use Rattle.hd_sdf_read.specs.declared.file.Extra.{Extra}
-use Rattle.hd_sdf_read.specs.Entries.{Ends, Keyed, Skipped, Unread, entry_of, extra_entries, has_key, is_comment, is_equals, is_key, is_value, keyed, kind_of, kind_of_text, offence, text_of, value_offence, value_of}
+use Rattle.hd_sdf_read.specs.Entries.{Ends, Keyed, Skipped, Unread, entry_of, extra_entries, has_key, is_comment, is_equals, is_key, is_value, keyed}
+use Rattle.hd_sdf_read.specs.Entries.{kind_of, kind_of_text, offence, text_of, value_offence, value_of}
 use Rattle.hd_sdf_read.specs.File.{AreGood, are_apart, is_entry, is_extra, is_header_key, is_header_value, is_trimmed_line}
 use Rattle.hd_sdf_read.specs.Keys.{form_of, same_key}
 use Rattle.hd_sdf_read.proofs.Trims.{IsTrimmed, trimmed-length, list_any-drop, list_any-take, trimmed_by-any, before_first-none, trimmed_by-first, IsTrimmed-trimmed_by, IsTrimmed-same}
@@ -88,7 +90,8 @@ same_key-turned a b c same =
     let low : List ℕ = map to_ascii_lowercase a in
     let high : List ℕ = map to_ascii_lowercase b in
     let turned : bytes_eq high low ≡ bytes_eq low high =
-    same_from_decides {P = low ≡ high} (bytes_eq high low) (bytes_eq low high) (Decides-like {P = high ≡ low} (bytes_eq high low) (λ e. sym e) (λ e. sym e) (bytes_eq-Decides high low)) (bytes_eq-Decides low high) in
+    same_from_decides {P = low ≡ high} (bytes_eq high low) (bytes_eq low high) (Decides-like {P = high ≡ low} (bytes_eq high low) (λ e. sym e) (λ e. sym e)
+    (bytes_eq-Decides high low)) (bytes_eq-Decides low high) in
     turned ∙ same
 
 -- one more key that is not there yet
@@ -159,7 +162,8 @@ extra_new key [] new = refl
 extra_new key (e ∷ entries) new =
     let parts = or_parts (same_key e.key key) (has_key key entries) new in
     elim (cases_Bool (is_none (form_of e.key))) [
-      | inl unknown ↦ ap (λ b. has_key key (cond b (e ∷ extra_entries entries) (extra_entries entries))) unknown ∙ ap (λ b. b || has_key key (extra_entries entries)) parts.0 ∙ extra_new key entries parts.1
+      | inl unknown ↦ ap (λ b. has_key key (cond b (e ∷ extra_entries entries) (extra_entries entries))) unknown ∙ ap (λ b. b || has_key key (extra_entries entries)) parts.0
+          ∙ extra_new key entries parts.1
       | inr known ↦ ap (λ b. has_key key (cond b (e ∷ extra_entries entries) (extra_entries entries))) known ∙ extra_new key entries parts.1
     ]
 

@@ -15,7 +15,8 @@ use Rattle.hd_sdf_read.specs.Decimals.{Decimals, cells_at, decimals_from, most_p
 use Rattle.hd_sdf_read.specs.Keys.{has_decimals, with_places}
 
 module _ (bytes : List ℕ) where
-  pub file_in-whole_header : (version : Version) (header : Header) (text : List ℕ) → version_of (lines_of bytes) ≡ Ok version → header_from 2 [] (drop 1 (lines_of bytes)) ≡ Ok header → after_lines header.last bytes ≡ text
+  pub file_in-whole_header : (version : Version) (header : Header) (text : List ℕ) → version_of (lines_of bytes) ≡ Ok version
+      → header_from 2 [] (drop 1 (lines_of bytes)) ≡ Ok header → after_lines header.last bytes ≡ text
       → file_in bytes ≡ body_in version header.entries text
   unfolding file_in
   file_in-whole_header version header text right whole rest = rw (right, whole, rest) refl
@@ -25,7 +26,8 @@ module _ (version : Version) (entries : List Extra) (text : List ℕ) where
   unfolding body_in
   body_in-no_required_keys e wrong = rw wrong refl
 
-  pub body_in-whole_body : (keys : RequiredKeys) (parts : Mapped) (trailer : List ℕ) → required_keys_of entries ≡ Ok keys → mapped keys.size keys.data_type text ≡ Ok parts → trailer_of (cell_count keys.size) parts.rest ≡ Ok trailer
+  pub body_in-whole_body : (keys : RequiredKeys) (parts : Mapped) (trailer : List ℕ) → required_keys_of entries ≡ Ok keys → mapped keys.size keys.data_type text ≡ Ok parts
+      → trailer_of (cell_count keys.size) parts.rest ≡ Ok trailer
       → body_in version entries text ≡ Ok (file_with version entries keys parts.map trailer)
   unfolding body_in
   body_in-whole_body keys parts trailer right whole end = rw (right, whole, end) refl

@@ -65,7 +65,8 @@ resolution_good entries = or_minus_one (decimal_at (codes "Zresolution") entries
 -- a trailer without its ends
 pub is_trailer-trimmed : (text : List ℕ) → length (trimmed_by is_gap text) ≤ 65536 → is_trailer (trimmed_by is_gap text) ≡ true
 is_trailer-trimmed text short =
-    and_from _ _ (le-leb _ _ short) ((bytes_eq-Decides (trimmed_by is_gap (trimmed_by is_gap text)) (trimmed_by is_gap text)).1 (IsTrimmed-same is_gap (trimmed_by is_gap text) (IsTrimmed-trimmed_by is_gap text)))
+    and_from _ _ (le-leb _ _ short) ((bytes_eq-Decides (trimmed_by is_gap (trimmed_by is_gap text)) (trimmed_by is_gap text)).1
+    (IsTrimmed-same is_gap (trimmed_by is_gap text) (IsTrimmed-trimmed_by is_gap text)))
 
 -- the file of such parts
 pub HasForms-good : (version : Version) (entries : List Extra) (keys : RequiredKeys) (map : Map) (trailer : List ℕ) → AreGood entries → HasDecimals keys → is_trailer trailer ≡ true

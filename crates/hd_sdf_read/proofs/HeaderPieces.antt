@@ -1,5 +1,6 @@
 -- A header that is read line by line, in pieces.
-use Rattle.std.proofs.Common.{◌≡◌, ◌+◌, ◌-◌, ◌<◌, ◌≤◌, ℕ, zero, suc, false, List, [], ◌∷◌, ◌++◌, length, drop, cond, Option, not, ◌⊎◌, Some, None, Result, Ok, Err, refl, sym, ap, arith, ◌∙◌, inl, inr, length-append, append_assoc}
+use Rattle.std.proofs.Common.{◌≡◌, ◌+◌, ◌-◌, ◌<◌, ◌≤◌, ℕ, zero, suc, false, List, [], ◌∷◌, ◌++◌, length, drop, cond, Option, not, ◌⊎◌, Some, None}
+use Rattle.std.proofs.Common.{Result, Ok, Err, refl, sym, ap, arith, ◌∙◌, inl, inr, length-append, append_assoc}
 use Rattle.std.specs.List.{list_any, onto_first, position_or_len, slice_split}
 use Rattle.std.proofs.lemmas.Bool.{cases_Bool, ne_eqb, or_from, or_parts, lt-ltb}
 use borrow.Author.Tests.{eqb-true}
@@ -111,7 +112,8 @@ module _ (version : Version) (n : ℕ) (before : List Extra) (line rest : List �
       (λ h found.
       let later = header_last (lines_of rest) 2 [] h found in
       let step : h.last ≡ suc (h.last + 1 - 2) = omega arith in
-      ap (body_in version h.entries) (ap (λ k. after_lines k (line ++ 10 ∷ rest)) step ∙ after_first_line (h.last + 1 - 2) (line ++ 10 ∷ rest) ∙ ap (after_lines (h.last + 1 - 2)) (after_line-front line rest one))))
+      ap (body_in version h.entries) (ap (λ k. after_lines k (line ++ 10 ∷ rest)) step ∙ after_first_line (h.last + 1 - 2) (line ++ 10 ∷ rest)
+      ∙ ap (after_lines (h.last + 1 - 2)) (after_line-front line rest one))))
 
   -- it names none
   pub file_in-no_version : version_of_line line ≡ None → file_in (line ++ 10 ∷ rest) ≡ Err BadVersion

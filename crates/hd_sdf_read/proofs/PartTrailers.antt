@@ -1,5 +1,6 @@
 -- A trailer that is read in pieces.
-use Rattle.std.proofs.Common.{◌≡◌, ◌+◌, ◌-◌, ◌<◌, ◌≤◌, ◌⊎◌, ℕ, suc, subst, true, false, List, [], ◌∷◌, ◌++◌, length, get_or, ◌&&◌, cond, Ok, Err, inl, inr, refl, sym, ap, arith, ◌∙◌, append_assoc, drop, length-append, length-take, length-take-le, take, Result}
+use Rattle.std.proofs.Common.{◌≡◌, ◌+◌, ◌-◌, ◌<◌, ◌≤◌, ◌⊎◌, ℕ, suc, subst, true, false, List, [], ◌∷◌, ◌++◌, length, get_or, ◌&&◌, cond, Ok, Err, inl}
+use Rattle.std.proofs.Common.{inr, refl, sym, ap, arith, ◌∙◌, append_assoc, drop, length-append, length-take, length-take-le, take, Result}
 use Rattle.std.specs.List.{list_all, prefix_len, suffix_len}
 use Rattle.std.proofs.lemmas.Bool.{and_from, and_parts, cases_Bool, lt-ltb, true≢false}
 use Rattle.std.proofs.lemmas.List.{get_or-append_right, get_or_append_left}

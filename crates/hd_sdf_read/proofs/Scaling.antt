@@ -1,5 +1,6 @@
 -- Decimals as cells, in steps of the last of so many places.
-use Rattle.std.proofs.Common.{◌≡◌, ◌+◌, ◌-◌, ◌*◌, ◌/◌, ◌^◌, ◌<◌, ◌≤◌, ℕ, zero, suc, pos, max, unsigned_abs, Bool, true, false, List, [], ◌∷◌, ◌++◌, length, map, Ok, Err, cond, inl, inr, refl, sym, ap, ap₂, ◌∙◌, arith, length-append, mul_assoc, mul_comm}
+use Rattle.std.proofs.Common.{◌≡◌, ◌+◌, ◌-◌, ◌*◌, ◌/◌, ◌^◌, ◌<◌, ◌≤◌, ℕ, zero, suc, pos, max, unsigned_abs, Bool, true, false, List, [], ◌∷◌, ◌++◌}
+use Rattle.std.proofs.Common.{length, map, Ok, Err, cond, inl, inr, refl, sym, ap, ap₂, ◌∙◌, arith, length-append, mul_assoc, mul_comm}
 use Rattle.std.specs.Prelude.{nat_le}
 use Rattle.std.specs.List.{list_all}
 use mir.Syntax.{w64}
@@ -169,7 +170,8 @@ pub with_places-same : (t new : DataType) (places : ℕ) → new ≡ with_places
 with_places-same t new places is = is ∙ sym (with_places-again t places places) ∙ ap (λ x. with_places x places) (sym is)
 
 -- cells that are multiplied are of a type, where the greatest of them is in range
-pub AreCellsOf-products : (t new : DataType) (places k : ℕ) (cs : List Cell) → has_decimals t ≡ true → new ≡ with_places t places → greatest_in cs * k ≤ most_steps → AreCellsOf new (map (multiplied (pos k)) cs)
+pub AreCellsOf-products : (t new : DataType) (places k : ℕ) (cs : List Cell) → has_decimals t ≡ true → new ≡ with_places t places → greatest_in cs * k ≤ most_steps
+    → AreCellsOf new (map (multiplied (pos k)) cs)
 AreCellsOf-products t new places k cs decimals is small =
     AreCellsOf-fit new (map (multiplied (pos k)) cs) (has_decimals-with_places t new places decimals is) (omega (arith, greatest_in-times k cs, small))
 
@@ -195,7 +197,8 @@ module _ (old new : Scaled) (t : DataType) (before : List Datum) (d : Datum) (ke
       )
 
 -- one more datum is out of range
-pub ranged-not_pushed : (old : Scaled) (t : DataType) (before : List Datum) (d : Datum) (number : ℕ) → IsRefined old t before (places_in d) → most_steps < steps_at old.places d → number ≡ length before + 1
+pub ranged-not_pushed : (old : Scaled) (t : DataType) (before : List Datum) (d : Datum) (number : ℕ) → IsRefined old t before (places_in d) → most_steps < steps_at old.places d
+    → number ≡ length before + 1
     → ranged (before ++ d ∷ []) ≡ Err (DatumRange number)
 ranged-not_pushed old t before d number kept great is =
     let cells : greatest_in (cells_at old.places (before ++ d ∷ [])) ≡ max (greatest_in (cells_at old.places before)) (size_of (cell_at old.places d)) =
@@ -216,16 +219,19 @@ ranged-not_refined before d number beyond is =
 
 -- steps of more places are taken
 pub IsRefined-grown : (old new : Scaled) (t : DataType) (before : List Datum) (places : ℕ) → IsScaled old t before → old.places < places
-    → wide_cells_in new.cells ≡ map (multiplied (pos (10 ^ (places - old.places)))) (wide_cells_in old.cells) → new.places ≡ places → new.cells.data_type ≡ with_places old.cells.data_type places → IsRefined new t before places
+    → wide_cells_in new.cells ≡ map (multiplied (pos (10 ^ (places - old.places)))) (wide_cells_in old.cells) → new.places ≡ places
+    → new.cells.data_type ≡ with_places old.cells.data_type places → IsRefined new t before places
 IsRefined-grown old new t before places kept more cells places_are data_type =
     let most = kept.places in
     record {
-      cells = cells ∙ ap (map (multiplied (pos (10 ^ (places - old.places))))) kept.cells ∙ cells_at-grow old.places places before (omega (arith, most)) (omega (arith, more)) ∙ ap (λ p. cells_at p before) (sym places_are);
+      cells = cells ∙ ap (map (multiplied (pos (10 ^ (places - old.places))))) kept.cells ∙ cells_at-grow old.places places before (omega (arith, most)) (omega (arith, more))
+          ∙ ap (λ p. cells_at p before) (sym places_are);
       places_are = omega (arith, places_are, most, more);
       data_type = data_type ∙ ap (λ x. with_places x places) kept.data_type ∙ with_places-again t old.places places ∙ ap (with_places t) (sym places_are);
     }
 
-pub IsBeyond-not_grown : (old : Scaled) (t : DataType) (before : List Datum) (places : ℕ) → IsScaled old t before → old.places < places → most_steps < greatest_in (wide_cells_in old.cells) * 10 ^ (places - old.places) → IsBeyond before places
+pub IsBeyond-not_grown : (old : Scaled) (t : DataType) (before : List Datum) (places : ℕ) → IsScaled old t before → old.places < places
+    → most_steps < greatest_in (wide_cells_in old.cells) * 10 ^ (places - old.places) → IsBeyond before places
 IsBeyond-not_grown old t before places kept more great =
     let most = kept.places in
     let same : greatest_in (cells_at places before) ≡ greatest_in (wide_cells_in old.cells) * 10 ^ (places - old.places) =
@@ -265,7 +271,8 @@ module _ (old : Scaled) (places factor greatest : ℕ) (t new : DataType) (same 
 
   pub Grows-size : (cells : List Cell) → cells ≡ map (multiplied (to_z w64 factor)) (wide_cells_in old.cells) → greatest ≡ greatest_in cells
   Grows-size cells cells_are =
-      sym (ap greatest_in cells_are ∙ ap (λ k. greatest_in (map (multiplied k) (wide_cells_in old.cells))) (ten_power-kept factor grown_small) ∙ greatest_in-times factor (wide_cells_in old.cells) ∙ grown_greatest)
+      sym (ap greatest_in cells_are ∙ ap (λ k. greatest_in (map (multiplied k) (wide_cells_in old.cells))) (ten_power-kept factor grown_small)
+      ∙ greatest_in-times factor (wide_cells_in old.cells) ∙ grown_greatest)
 
 pub Refines-from_grows : (old new : Scaled) (places : ℕ) (done : Bool) → old.places < places → Grows old new places done → Refines old new places done
 Refines-from_grows old new places true more grows = λ t before kept. IsRefined-grown old new t before places kept more grows.0 grows.1 grows.2

@@ -1,5 +1,7 @@
 -- Data that are read many at once.
-use Rattle.std.proofs.Common.{◌≡◌, ◌+◌, ◌-◌, ◌<◌, ◌≤◌, ℕ, ℤ, zero, suc, Bool, true, false, not, eqb, List, [], ◌∷◌, ◌++◌, length, map, replicate, set, take, drop, get_or, Ok, inl, inr, refl, sym, ap, ap₂, subst, arith, ◌∙◌, append-nil, append_assoc, length-append, length-drop}
+use Rattle.std.proofs.Common.{◌≡◌, ◌+◌, ◌-◌, ◌<◌, ◌≤◌, ℕ, ℤ, zero, suc, Bool, true, false, not, eqb, List, [], ◌∷◌, ◌++◌, length, map, replicate, set}
+use Rattle.std.proofs.Common.{take, drop, get_or, Ok, inl, inr, refl, sym, ap, ap₂, subst, arith, ◌∙◌, append-nil, append_assoc, length-append}
+use Rattle.std.proofs.Common.{length-drop}
 use Rattle.std.specs.Prelude.{codes}
 use Rattle.std.specs.List.{list_all, position_or_len}
 use Rattle.std.proofs.lemmas.Bool.{cases_Bool, not-false}
@@ -77,7 +79,8 @@ module _ (least greatest : ℤ) where
   }
 
   -- the gaps before a datum say nothing
-  pub IsDatum-behind : (text word rest : List ℕ) (cell : Cell) → ((more : List ℕ) → without_start is_gap (text ++ more) ≡ without_start is_gap (word ++ more)) → IsDatum least greatest word rest cell → IsDatum least greatest text rest cell
+  pub IsDatum-behind : (text word rest : List ℕ) (cell : Cell) → ((more : List ℕ) → without_start is_gap (text ++ more) ≡ without_start is_gap (word ++ more))
+      → IsDatum least greatest word rest cell → IsDatum least greatest text rest cell
   IsDatum-behind text word rest cell same datum = record {
     given = λ read more. (
         let given = datum.given read more in
@@ -87,7 +90,8 @@ module _ (least greatest : ℤ) where
   }
 
   -- one more
-  pub AreData-more : (text middle rest : List ℕ) (cells : List Cell) (cell : Cell) → AreData least greatest text middle cells → IsDatum least greatest middle rest cell → AreData least greatest text rest (cells ++ cell ∷ [])
+  pub AreData-more : (text middle rest : List ℕ) (cells : List Cell) (cell : Cell) → AreData least greatest text middle cells → IsDatum least greatest middle rest cell
+      → AreData least greatest text rest (cells ++ cell ∷ [])
   AreData-more text middle rest [] cell same datum = (rest, subst (λ (t : List ℕ). IsDatum least greatest t rest cell) same datum, refl)
   AreData-more text middle rest (c ∷ cs) cell read_on datum = (read_on.0, read_on.1, AreData-more read_on.0 middle rest cs cell read_on.2 datum)
 
@@ -101,7 +105,8 @@ module _ (least greatest : ℤ) where
       (AreData-more text middle rest (kept_cells height (take place overs) (take place marks)) (cell_from height over mark) read_on datum)
 
   -- a gap begins what follows them
-  pub AreData-begin : (text rest : List ℕ) (cells : List Cell) → AreData least greatest text rest cells → 0 < length text → is_gap (get_or text 0 0) ≡ true → (0 < length rest) × (is_gap (get_or rest 0 0) ≡ true)
+  pub AreData-begin : (text rest : List ℕ) (cells : List Cell) → AreData least greatest text rest cells → 0 < length text → is_gap (get_or text 0 0) ≡ true → (0 < length rest)
+      × (is_gap (get_or rest 0 0) ≡ true)
   AreData-begin text rest [] same some begins = rw same (some, begins)
   AreData-begin text rest (c ∷ cs) read_on some begins = AreData-begin read_on.0 rest cs read_on.2 read_on.1.left read_on.1.begins
 
@@ -131,7 +136,8 @@ masks-filled marks place mark inside before clear =
     ∙ ap₂ (λ (ms : List Bool) (m : Bool). ms ++ m ∷ []) before clear ∙ replicate_more place false
 
 -- so many numbers and marks are so many cells
-pub kept_cells-count : (height : ℕ → ℤ) (overs : List ℕ) (marks : List Mark) (count : ℕ) → count ≤ length overs → count ≤ length marks → length (kept_cells height (take count overs) (take count marks)) ≡ count
+pub kept_cells-count : (height : ℕ → ℤ) (overs : List ℕ) (marks : List Mark) (count : ℕ) → count ≤ length overs → count ≤ length marks
+    → length (kept_cells height (take count overs) (take count marks)) ≡ count
 kept_cells-count height overs marks count inside within =
     let size = length-take-le count overs inside in
     length-zip2 (cell_from height) (take count overs) (take count marks) (size ∙ sym (length-take-le count marks within)) ∙ size
@@ -142,8 +148,10 @@ without_start-behind_gap [] some begins more = absurd (omega arith)
 without_start-behind_gap (gap ∷ word) some begins more = let all : list_all is_gap (gap ∷ []) ≡ true = rw begins refl in without_start-front is_gap (gap ∷ []) (word ++ more) all
 
 -- and those behind it
-pub without_start-behind_gaps : (text word : List ℕ) → 0 < length text → is_gap (get_or text 0 0) ≡ true → word ≡ without_start is_gap (drop 1 text) → (more : List ℕ) → without_start is_gap (text ++ more) ≡ without_start is_gap (word ++ more)
-without_start-behind_gaps text word some begins is more = without_start-behind_gap text some begins more ∙ without_start-twice (drop 1 text) more ∙ ap (λ (t : List ℕ). without_start is_gap (t ++ more)) (sym is)
+pub without_start-behind_gaps : (text word : List ℕ) → 0 < length text → is_gap (get_or text 0 0) ≡ true → word ≡ without_start is_gap (drop 1 text) → (more : List ℕ)
+    → without_start is_gap (text ++ more) ≡ without_start is_gap (word ++ more)
+without_start-behind_gaps text word some begins is more = without_start-behind_gap text some begins more ∙ without_start-twice (drop 1 text) more
+    ∙ ap (λ (t : List ℕ). without_start is_gap (t ++ more)) (sym is)
 
 -- nothing is read yet
 pub ReadsShort-none : (size : Size) (old : packed.Cells) (text : List ℕ) → length (cells_in old) ≤ cell_count size → ReadsShort size old text old text
@@ -170,7 +178,8 @@ ReadsShort-batch size old text mid middle new rest least greatest room count rea
     )
 
 -- some more
-pub HasOn-short : (size : Size) (old : packed.Cells) (text : List ℕ) (mid : packed.Cells) (middle : List ℕ) (read : ℕ) (new : packed.Cells) (rest : List ℕ) (count : ℕ) → HasOn size old text mid middle read → ReadsShort size mid middle new rest
+pub HasOn-short : (size : Size) (old : packed.Cells) (text : List ℕ) (mid : packed.Cells) (middle : List ℕ) (read : ℕ) (new : packed.Cells) (rest : List ℕ) (count : ℕ)
+    → HasOn size old text mid middle read → ReadsShort size mid middle new rest
     → count ≡ length (cells_in new) → HasOn size old text new rest count
 HasOn-short size old text mid middle read new rest count has reads is = record {
   same = λ more.
@@ -180,7 +189,8 @@ HasOn-short size old text mid middle read new rest count has reads is = record {
   count = sym is;
 }
 
-pub HasOn-again : (size : Size) (old : packed.Cells) (text : List ℕ) (new : packed.Cells) (rest : List ℕ) (read : ℕ) → HasOn size old text new rest read → read ≤ cell_count size → HasOn size old text new rest (length (cells_in new)) × (length (cells_in new) ≤ cell_count size)
+pub HasOn-again : (size : Size) (old : packed.Cells) (text : List ℕ) (new : packed.Cells) (rest : List ℕ) (read : ℕ) → HasOn size old text new rest read → read ≤ cell_count size
+    → HasOn size old text new rest (length (cells_in new)) × (length (cells_in new) ≤ cell_count size)
 HasOn-again size old text new rest read has few =
     let count = has.count in
     (record { same = has.same; data_type = has.data_type; count = refl }, omega (arith, count, few))

@@ -20,7 +20,8 @@ Feeds-from old other piece rest (Ok new) same fed = λ more. same more ∙ fed m
 Feeds-from old other piece rest (Err e) same fed = λ refused more. same more ∙ fed refused more
 
 -- the same, where the other stands behind the end of a header
-pub Feeds-behind : (old : State) (header : Header) (piece rest : List ℕ) (result : Result State SdfError) → ((more : List ℕ) → continued old (piece ++ more) ≡ body_in header.version header.entries (rest ++ more))
+pub Feeds-behind : (old : State) (header : Header) (piece rest : List ℕ) (result : Result State SdfError)
+    → ((more : List ℕ) → continued old (piece ++ more) ≡ body_in header.version header.entries (rest ++ more))
     → FeedsBehind header rest result → Feeds old piece result
 Feeds-behind old header piece rest (Ok new) same fed = λ more. same more ∙ fed more
 Feeds-behind old header piece rest (Err e) same fed = λ refused more. same more ∙ fed refused more

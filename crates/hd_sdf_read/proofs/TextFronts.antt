@@ -48,7 +48,8 @@ module _ (test : ℕ → Bool) where
   start_block other passes block count text room counted =
       let inside : 0 + block ≤ length text = omega (arith, room) in
       let few = run_in_chunk_le other text 0 block count 0 inside counted in
-      without_start-behind count text (omega (arith, few, room)) (λ k less. passes (get_or text k 0) (run_in_chunk_fails other text 0 block count 0 inside counted k (omega arith) (omega (arith, less))))
+      without_start-behind count text (omega (arith, few, room)) (λ k less. passes (get_or text k 0)
+      (run_in_chunk_fails other text 0 block count 0 inside counted k (omega arith) (omega (arith, less))))
 
   -- a text whose first byte does not pass stays
   pub without_start-stays : (text rest : List ℕ) → 0 < length text → test (get_or text 0 0) ≡ false → without_start test (text ++ rest) ≡ text ++ rest
@@ -81,7 +82,8 @@ space_is_gap : (byte : ℕ) → is_not_space byte ≡ false → is_gap byte ≡ 
 space_is_gap byte space = rw (not-false (eqb byte 32) space) refl
 
 -- the spaces at the front of a block are left out
-pub without_start-spaces : (block count : ℕ) (text : List ℕ) → block ≤ length text → count ≡ position_or_len is_not_space (take block text) → without_start is_gap (drop count text) ≡ without_start is_gap text
+pub without_start-spaces : (block count : ℕ) (text : List ℕ) → block ≤ length text → count ≡ position_or_len is_not_space (take block text)
+    → without_start is_gap (drop count text) ≡ without_start is_gap text
 without_start-spaces block count text room counted = start_block is_gap is_not_space space_is_gap block count text room counted
 
 -- there is a piece after the first

@@ -1,5 +1,6 @@
 -- Texts that are cut after a token.
-use Rattle.std.proofs.Common.{◌≡◌, ◌+◌, ◌<◌, ◌≤◌, ℕ, suc, Bool, true, false, List, [], ◌∷◌, ◌++◌, length, take, drop, get_or, inl, inr, refl, sym, ap, ap₂, arith, ◌∙◌, append_assoc, length-append, length-drop, length-take}
+use Rattle.std.proofs.Common.{◌≡◌, ◌+◌, ◌<◌, ◌≤◌, ℕ, suc, Bool, true, false, List, [], ◌∷◌, ◌++◌, length, take, drop, get_or, inl, inr, refl, sym, ap}
+use Rattle.std.proofs.Common.{ap₂, arith, ◌∙◌, append_assoc, length-append, length-drop, length-take}
 use Rattle.std.specs.List.{before_first, list_all, list_any, position_or_len, prefix_len}
 use Rattle.std.proofs.Math.Seq.{drop-append_seam, take-append_seam}
 use Rattle.std.proofs.lemmas.Bool.{and_from, cases_Bool, cases_lt, or_from}
@@ -130,7 +131,8 @@ module _ (text more : List ℕ) (cut : 0 < length (after_token text)) where
 
   pub token_of-stays : token_of (text ++ more) ≡ token_of text
   unfolding token_of front
-  token_of-stays = ap (before_first is_gap) begins ∙ ap (λ n. take n (front ++ more)) (place_stays is_gap front more inside) ∙ take-append-le (position_or_len is_gap front) front more (omega (arith, inside))
+  token_of-stays = ap (before_first is_gap) begins ∙ ap (λ n. take n (front ++ more)) (place_stays is_gap front more inside)
+      ∙ take-append-le (position_or_len is_gap front) front more (omega (arith, inside))
 
   pub after_token-stays : after_token (text ++ more) ≡ after_token text ++ more
   unfolding after_token front
@@ -185,7 +187,8 @@ without_start-first text some = start_first is_gap text some
 
 -- a part of a token and a piece that ends it
 pub IsWord-joined : (before text shown end rest word : List ℕ) → list_any is_gap before ≡ false
-    → ((more : List ℕ) → without_start is_gap (before ++ (text ++ more)) ≡ without_start is_gap (before ++ (shown ++ more))) → (length before ≡ 0 → 0 < length shown → is_gap (get_or shown 0 0) ≡ false)
+    → ((more : List ℕ) → without_start is_gap (before ++ (text ++ more)) ≡ without_start is_gap (before ++ (shown ++ more)))
+    → (length before ≡ 0 → 0 < length shown → is_gap (get_or shown 0 0) ≡ false)
     → IsCut shown end rest → word ≡ before ++ end → IsWord before text word rest
 IsWord-joined before text shown end rest word gapless same begins cut is =
     let left = cut.some in
@@ -193,7 +196,8 @@ IsWord-joined before text shown end rest word gapless same begins cut is =
     record {
       same = λ more.
           same more ∙ ap (λ (t : List ℕ). without_start is_gap (before ++ (t ++ more))) cut.text_is
-          ∙ ap (λ (t : List ℕ). without_start is_gap t) (ap (λ (t : List ℕ). before ++ t) (append_assoc end rest more) ∙ sym (append_assoc before end (rest ++ more)) ∙ ap (λ (t : List ℕ). t ++ (rest ++ more)) (sym is));
+          ∙ ap (λ (t : List ℕ). without_start is_gap t) (ap (λ (t : List ℕ). before ++ t) (append_assoc end rest more) ∙ sym (append_assoc before end (rest ++ more))
+          ∙ ap (λ (t : List ℕ). t ++ (rest ++ more)) (sym is));
       some = elim (cases_lt 0 (length word)) [
         | inl some ↦ some
         | inr none ↦
@@ -210,6 +214,7 @@ IsWord-joined before text shown end rest word gapless same begins cut is =
     }
 
 -- a piece without a gap goes on with the token
-pub without_start-joined : (before text shown token : List ℕ) → ((more : List ℕ) → without_start is_gap (before ++ (text ++ more)) ≡ without_start is_gap (before ++ (shown ++ more))) → token ≡ before ++ shown
+pub without_start-joined : (before text shown token : List ℕ) → ((more : List ℕ) → without_start is_gap (before ++ (text ++ more))
+    ≡ without_start is_gap (before ++ (shown ++ more))) → token ≡ before ++ shown
     → (more : List ℕ) → without_start is_gap (before ++ (text ++ more)) ≡ without_start is_gap (token ++ more)
 without_start-joined before text shown token same is more = same more ∙ ap (λ (t : List ℕ). without_start is_gap t) (sym (append_assoc before shown more) ∙ ap (λ (t : List ℕ). t ++ more) (sym is))

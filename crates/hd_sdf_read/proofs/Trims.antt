@@ -1,5 +1,6 @@
 -- What is left of a text without the bytes at its ends that pass a test.
-use Rattle.std.proofs.Common.{◌≡◌, ◌+◌, ◌-◌, ◌<◌, ◌≤◌, ◌||◌, ℕ, zero, suc, Bool, true, false, not, List, [], ◌∷◌, length, take, drop, get_or, reverse, refl, sym, ap, arith, ◌∙◌, inl, inr, length-take, length-drop}
+use Rattle.std.proofs.Common.{◌≡◌, ◌+◌, ◌-◌, ◌<◌, ◌≤◌, ◌||◌, ℕ, zero, suc, Bool, true, false, not, List, [], ◌∷◌, length, take, drop, get_or, reverse}
+use Rattle.std.proofs.Common.{refl, sym, ap, arith, ◌∙◌, inl, inr, length-take, length-drop}
 use Rattle.std.specs.List.{before_first, list_any, prefix_len, suffix_len}
 use Rattle.std.proofs.lemmas.Bool.{cases_Bool}
 use Rattle.std.proofs.lemmas.List.{get_or-drop, get_or-reverse, get_or-take, length-reverse, take_all}

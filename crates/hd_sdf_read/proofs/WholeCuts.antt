@@ -100,9 +100,11 @@ module _ (size : Size) (old : packed.Cells) (word : List ℕ) (some : 0 < length
     word_cell : (rest : List ℕ) → Ends rest
         → datum_at (least_height old.data_type) (greatest_height old.data_type) (length (cells_in old)) (word ++ rest) ≡ cell_of least greatest (length (cells_in old) + 1) word
     word_cell rest ends =
-        rw (low, high) (datum_at-by_token (least_height old.data_type) (greatest_height old.data_type) (length (cells_in old)) (word ++ rest) word (sym (token_of-here word rest some gapless ends)) word_filled other)
+        rw (low, high) (datum_at-by_token (least_height old.data_type) (greatest_height old.data_type) (length (cells_in old)) (word ++ rest) word
+        (sym (token_of-here word rest some gapless ends)) word_filled other)
 
-    pub TakesWord-taken : (new : packed.Cells) (cell : Cell) → Ok cell ≡ cell_of least greatest (length (cells_in old) + 1) word → cells_in new ≡ cells_in old ++ cell ∷ [] → new.data_type ≡ old.data_type → TakesWord size old word new
+    pub TakesWord-taken : (new : packed.Cells) (cell : Cell) → Ok cell ≡ cell_of least greatest (length (cells_in old) + 1) word → cells_in new ≡ cells_in old ++ cell ∷ []
+        → new.data_type ≡ old.data_type → TakesWord size old word new
     TakesWord-taken new cell found cells type = record {
       same = λ rest ends.
           whole_in-step size old.data_type (cells_in old) (word ++ rest) rest cell missing (word_cell rest ends ∙ sym found) (sym (after_token-here word rest some gapless ends))
@@ -111,9 +113,11 @@ module _ (size : Size) (old : packed.Cells) (word : List ℕ) (some : 0 < length
       count = ap length cells ∙ length-append (cells_in old) (cell ∷ []);
     }
 
-    pub whole_in-refused : (e : SdfError) → Err e ≡ cell_of least greatest (length (cells_in old) + 1) word → (rest : List ℕ) → Ends rest → whole_in size old.data_type (cells_in old) (word ++ rest) ≡ Err e
+    pub whole_in-refused : (e : SdfError) → Err e ≡ cell_of least greatest (length (cells_in old) + 1) word → (rest : List ℕ) → Ends rest
+        → whole_in size old.data_type (cells_in old) (word ++ rest) ≡ Err e
     whole_in-refused e wrong rest ends = whole_in-stop size old.data_type (cells_in old) (word ++ rest) e missing (word_cell rest ends ∙ sym wrong)
 
     pub cell_of-fits : (cell : Cell) → Ok cell ≡ cell_of least greatest (length (cells_in old) + 1) word → IsCellOf old.data_type cell
     cell_of-fits cell found =
-        datum_at-fits old.data_type (least_height old.data_type) (greatest_height old.data_type) (length (cells_in old)) (word ++ []) cell refl refl (word_cell [] (λ none. absurd (omega arith)) ∙ sym found)
+        datum_at-fits old.data_type (least_height old.data_type) (greatest_height old.data_type) (length (cells_in old)) (word ++ []) cell refl refl
+        (word_cell [] (λ none. absurd (omega arith)) ∙ sym found)

@@ -1,5 +1,6 @@
 -- Whole numbers at the front of a text.
-use Rattle.std.proofs.Common.{◌≡◌, ◌+◌, ◌-◌, ◌+ℤ◌, ◌^◌, ◌<◌, ◌≤◌, ℕ, zero, suc, ℤ, pos, negsuc, Bool, true, false, not, List, [], ◌∷◌, length, take, drop, get_or, eqb, ◌&&◌, Some, None, Ok, inl, inr, refl, sym, ap, ap₂, arith, ◌∙◌, if◌then◌else◌}
+use Rattle.std.proofs.Common.{◌≡◌, ◌+◌, ◌-◌, ◌+ℤ◌, ◌^◌, ◌<◌, ◌≤◌, ℕ, zero, suc, ℤ, pos, negsuc, Bool, true, false, not, List, [], ◌∷◌, length, take}
+use Rattle.std.proofs.Common.{drop, get_or, eqb, ◌&&◌, Some, None, Ok, inl, inr, refl, sym, ap, ap₂, arith, ◌∙◌, if◌then◌else◌}
 use Rattle.std.specs.Prelude.{bytes_eq, codes, int_le}
 use Rattle.std.specs.Char.{is_ascii_digit}
 use Rattle.std.specs.List.{before_first, list_all, position_or_len}
@@ -46,7 +47,8 @@ digits_end text count inside digits after =
     position_or_len_is is_gap text count 0 inside (λ k less. is_gap-digit (get_or text k 0) (digit_at text count k inside digits less)) after
 
 -- a token of digits with a sign or none
-token_number : (token ds : List ℕ) (negative : Bool) (n : ℕ) → without_leading_sign token ≡ ds → starts_with_minus token ≡ negative → 0 < length ds → list_all is_ascii_digit ds ≡ true → n ≡ digits_value 10 ds
+token_number : (token ds : List ℕ) (negative : Bool) (n : ℕ) → without_leading_sign token ≡ ds → starts_with_minus token ≡ negative → 0 < length ds
+    → list_all is_ascii_digit ds ≡ true → n ≡ digits_value 10 ds
     → n < 1000000000000000000 → whole_of token ≡ Is (signed_number negative n)
 token_number token ds negative n is minus some digits value small =
     let numeral : is_numeral (without_leading_sign token) ≡ true = ap is_numeral is ∙ and_from _ _ (ap not (ne_eqb (length ds) 0 (λ none. omega (arith, none, some)))) digits in
@@ -130,7 +132,8 @@ module _ (below greatest : ℕ) (text rest : List ℕ) (n : ℕ) where
   }
 
   -- or with a minus
-  pub TakesCell-minus : 0 < length text → get_or text 0 0 ≡ 45 → TakesNumber (drop 1 text) rest n → n ≤ below → TakesCell (signed_number true below) (pos greatest) text rest (Height (signed_number true below +ℤ pos (below - n)))
+  pub TakesCell-minus : 0 < length text → get_or text 0 0 ≡ 45 → TakesNumber (drop 1 text) rest n → n ≤ below
+      → TakesCell (signed_number true below) (pos greatest) text rest (Height (signed_number true below +ℤ pos (below - n)))
   TakesCell-minus filled minus takes within = record {
     height = signed_number true n;
     takes = rw takes.after (minus_at text takes.count n filled minus takes.some takes.digits (gap_behind (drop 1 text) rest takes.count takes.after takes.begins));

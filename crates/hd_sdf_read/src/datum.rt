@@ -31,7 +31,8 @@ pub fn leading_over(
     text: &[u8],
 ) -> Option<(u32, &[u8])>
     requires { below + greatest < 2 ^ 32 }
-    ensures cell { IfSome result (λ parts. TakesCell (signed_number true below) (pos greatest) text.now parts.1.now (Height (signed_number true below +ℤ pos parts.0))) }
+    ensures cell { IfSome result (λ parts. TakesCell (signed_number true below)
+        (pos greatest) text.now parts.1.now (Height (signed_number true below +ℤ pos parts.0))) }
     ensures left { IfSome result (λ parts. 0 < length parts.1.now) }
 {
     if text.len() < 17 {
@@ -52,7 +53,9 @@ pub fn leading_over(
 fn over_below(reading: Reading, below: u32, text: &[u8]) -> Option<(u32, &[u8])>
     requires long { 17 ≤ length text.now }
     requires minus { slice_index text.now 0 ≡ 45 }
-    ensures cell { (greatest : ℕ) → IfSome result (λ parts. TakesCell (signed_number true below) (pos greatest) text.now parts.1.now (Height (signed_number true below +ℤ pos parts.0))) }
+    ensures cell { (greatest : ℕ) → IfSome result
+        (λ parts. TakesCell (signed_number true below) (pos greatest) text.now parts.1.now
+        (Height (signed_number true below +ℤ pos parts.0))) }
     ensures left { IfSome result (λ parts. 0 < length parts.1.now) }
 {
     let (number, rest) = leading_number(reading, &text[1..])?;
@@ -91,7 +94,8 @@ fn leading_digits(reading: Reading, text: &[u8]) -> Option<(usize, u64)>
 
 /// The text behind a `BAD` at its front, if a blank or an LF follows it.
 pub fn behind_bad(text: &[u8]) -> Option<&[u8]>
-    ensures { IfSome result (λ rest. (text.now ≡ codes "BAD" ++ rest.now) × (0 < length rest.now) × (is_gap (slice_index rest.now 0) ≡ true)) }
+    ensures { IfSome result (λ rest. (text.now ≡ codes "BAD" ++ rest.now) × (0 < length rest.now)
+        × (is_gap (slice_index rest.now 0) ≡ true)) }
 {
     match text {
         [b'B', b'A', b'D', rest @ ..] if !rest.is_empty() && ends_token(rest) => Some(rest),

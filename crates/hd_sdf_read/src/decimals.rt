@@ -46,7 +46,8 @@ pub fn datum_of(alloc: Global, number: u64, token: &[u8]) -> Result<Datum, SdfEr
 
 // What a decimal measures, if it alone is in range.
 fn measured(decimal: &Decimal) -> Option<Datum>
-    ensures { MatchOption result (IsSmall (measured decimal.now) → ⊥) (λ d. (d ≡ measured decimal.now) × IsSmall d) }
+    ensures { MatchOption result (IsSmall (measured decimal.now) → ⊥)
+        (λ d. (d ≡ measured decimal.now) × IsSmall d) }
 {
     if decimal.exponent >= 0 {
         let units = powered(decimal.digits, decimal.exponent as u32)?;
@@ -69,7 +70,8 @@ fn measured(decimal: &Decimal) -> Option<Datum>
 
 // Digits times ten to a power, if these are steps in range.
 fn powered(digits: u128, power: u32) -> Option<u64>
-    ensures { MatchOption result (most_steps < digits * 10 ^ power) (λ units. (units ≡ digits * 10 ^ power) × (units ≤ most_steps)) }
+    ensures { MatchOption result (most_steps < digits * 10 ^ power)
+        (λ units. (units ≡ digits * 10 ^ power) × (units ≤ most_steps)) }
 {
     if digits == 0 {
         return Some(0);

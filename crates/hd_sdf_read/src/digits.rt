@@ -36,7 +36,8 @@ fn no_digits(numbers: u8x16) -> u64
 fn value_of_first(digits: u64, count: u32) -> u64
     requires some { 1 ≤ count }
     requires few { count ≤ 8 }
-    ensures { (ds : List ℕ) → length ds ≡ 8 → AllBelowBase 256 ds → AllBelowBase 10 (take count ds) → digits ≡ number_l 256 ds → result ≡ number_from_digits 10 (take count ds) }
+    ensures { (ds : List ℕ) → length ds ≡ 8 → AllBelowBase 256 ds → AllBelowBase 10 (take count ds)
+        → digits ≡ number_l 256 ds → result ≡ number_from_digits 10 (take count ds) }
 {
     value_of_eight(digits << (64 - 8 * count))
 }
@@ -44,7 +45,8 @@ fn value_of_first(digits: u64, count: u32) -> u64
 // The number that eight digits write, the first of them in the lowest byte.
 #[inline(always)]
 fn value_of_eight(digits: u64) -> u64
-    ensures { (ds : List ℕ) → length ds ≡ 8 → AllBelowBase 10 ds → digits ≡ number_l 256 ds → result ≡ number_from_digits 10 ds }
+    ensures { (ds : List ℕ) → length ds ≡ 8 → AllBelowBase 10 ds → digits ≡ number_l 256 ds
+        → result ≡ number_from_digits 10 ds }
 {
     let pairs = digits.wrapping_mul(10).wrapping_add(digits >> 8);
     let first = (pairs & 0xff_0000_00ff).wrapping_mul(100 + (1_000_000 << 32));

@@ -30,8 +30,10 @@ pub fn join(token: PartToken, text: &[u8]) -> Result<Joined<'_>, Memory>
 
 // The next piece, without the gaps at its front where no byte of the token has come.
 fn behind<'a>(token: &PartToken, text: &'a [u8]) -> &'a [u8]
-    ensures same { (more : Items ℕ) → without_start is_gap (token.now.text ++ (text.now ++ more)) ≡ without_start is_gap (token.now.text ++ (result.now ++ more)) }
-    ensures begins { length token.now.text ≡ 0 → 0 < length result.now → is_gap (slice_index result.now 0) ≡ false }
+    ensures same { (more : Items ℕ) → without_start is_gap (token.now.text ++ (text.now ++ more))
+        ≡ without_start is_gap (token.now.text ++ (result.now ++ more)) }
+    ensures begins { length token.now.text ≡ 0 → 0 < length result.now
+        → is_gap (slice_index result.now 0) ≡ false }
 {
     if token.text.as_slice().is_empty() {
         skip_gaps(text)
@@ -43,7 +45,8 @@ fn behind<'a>(token: &PartToken, text: &'a [u8]) -> &'a [u8]
 /// The bytes at the front of a text that are no gaps, if a gap follows them, and the text from the
 /// gap on.
 pub fn split_gap(text: &[u8]) -> Option<(&[u8], &[u8])>
-    ensures { MatchOption result (list_any is_gap text.now ≡ false) (λ parts. IsCut text.now parts.0.now parts.1.now) }
+    ensures { MatchOption result (list_any is_gap text.now ≡ false)
+        (λ parts. IsCut text.now parts.0.now parts.1.now) }
 {
     let end = token_len(text);
     if end < text.len() {

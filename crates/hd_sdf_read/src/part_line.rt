@@ -31,7 +31,8 @@ impl PartLine {
     /// The line with more of it, or none where it is too long then.
     pub fn joined(self, more: &[u8]) -> Result<Option<PartLine>, Memory>
         requires { list_any is_line_feed more.now ≡ false }
-        ensures { IfOk result (λ joined. MatchOption joined (1024 < length (self.text ++ more.now)) (λ line. line.text ≡ self.text ++ more.now)) }
+        ensures { IfOk result (λ joined. MatchOption joined (1024 < length (self.text ++ more.now))
+            (λ line. line.text ≡ self.text ++ more.now)) }
     {
         let PartLine { mut text, .. } = self;
         if text.as_slice().len() + more.len() > MOST_BYTES {
@@ -44,7 +45,8 @@ impl PartLine {
 
 /// The first line of a text, if an LF ends it there, and the text after the LF.
 pub fn split_line(text: &[u8]) -> Option<(&[u8], &[u8])>
-    ensures { MatchOption result (list_any is_line_feed text.now ≡ false) (λ parts. IsFirstLine text.now parts.0.now parts.1.now) }
+    ensures { MatchOption result (list_any is_line_feed text.now ≡ false)
+        (λ parts. IsFirstLine text.now parts.0.now parts.1.now) }
 {
     'bytes: for (place, byte) in text.iter().enumerate() {
         if *byte == b'\n' {

@@ -63,8 +63,10 @@ impl PartTrailer {
 
     // The next piece, without the blanks and LFs at the front of the trailer.
     fn first_of<'a>(&self, piece: &'a [u8]) -> &'a [u8]
-        ensures same { (more : Items ℕ) → trailer_in (self.now.text ++ (piece.now ++ more)) ≡ trailer_in (self.now.text ++ (result.now ++ more)) }
-        ensures begins { 0 < length (self.now.text ++ result.now) → is_gap (slice_index (self.now.text ++ result.now) 0) ≡ false }
+        ensures same { (more : Items ℕ) → trailer_in (self.now.text ++ (piece.now ++ more))
+            ≡ trailer_in (self.now.text ++ (result.now ++ more)) }
+        ensures begins { 0 < length (self.now.text ++ result.now)
+            → is_gap (slice_index (self.now.text ++ result.now) 0) ≡ false }
     {
         if self.text.as_slice().is_empty() {
             return skip_gaps(piece);
@@ -75,7 +77,8 @@ impl PartTrailer {
     // The text with more bytes, where there is room.
     fn extended(self, more: &[u8]) -> Result<PartTrailer, SdfError>
         requires few { length (self.text ++ more.now) ≤ 65536 }
-        requires begins { 0 < length (self.text ++ more.now) → is_gap (slice_index (self.text ++ more.now) 0) ≡ false }
+        requires begins { 0 < length (self.text ++ more.now)
+            → is_gap (slice_index (self.text ++ more.now) 0) ≡ false }
         ensures { IsExtended self more.now result }
     {
         let PartTrailer { mut text, .. } = self;

@@ -50,7 +50,8 @@ impl SdfReader {
     /// come in place of any other answer. After an error each later call answers the same one.
     pub fn feed(&mut self, alloc: Global, piece: &[u8]) -> Result<(), SdfError>
         requires { fed_of self.old + length piece.now < 2 ^ 63 }
-        ensures text { (bytes : Items ℕ) → StandsFor self.old bytes → TakesPiece self.new bytes piece.now result }
+        ensures text { (bytes : Items ℕ) → StandsFor self.old bytes
+            → TakesPiece self.new bytes piece.now result }
         ensures refusal { refusal_of self.new ≡ is_refusal result }
         ensures again { StaysRefused (refusal_of self.old) result }
         ensures fed { CountsFed self.old self.new (length piece.now) result }

@@ -158,7 +158,8 @@ impl Scaled {
 #[inline]
 pub fn multiplied(units: u64, power: u8) -> Option<u64>
     requires { power ≤ most_places }
-    ensures { MatchOption result (most_steps < units * 10 ^ power) (λ steps. (steps ≡ units * 10 ^ power) × (steps ≤ most_steps)) }
+    ensures { MatchOption result (most_steps < units * 10 ^ power)
+        (λ steps. (steps ≡ units * 10 ^ power) × (steps ≤ most_steps)) }
 {
     if power == 0 {
         return if units <= MOST_STEPS {

@@ -58,7 +58,8 @@ pub fn build(
     requires entries { AreGood entries.now }
     requires decimals { HasDecimals (required_keys_view frame) }
     requires trailer { is_trailer trailer ≡ true }
-    ensures { IfOk result (λ f. file_of f ≡ file_with version entries.now (required_keys_view frame) (map_of surface) trailer) }
+    ensures { IfOk result (λ f. file_of f ≡ file_with version entries.now (required_keys_view frame)
+        (map_of surface) trailer) }
 {
     let kept = kept_of(alloc, entries)?;
     let RequiredKeys {

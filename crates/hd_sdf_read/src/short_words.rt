@@ -28,7 +28,8 @@ pub fn read_batch<'a>(
     requires span { below + greatest < 2 ^ 32 }
     requires some { 0 < length text.now }
     requires begins { is_gap (slice_index text.now 0) ≡ true }
-    ensures { IfOk result (λ parts. TakesBatch (signed_number true below) (pos greatest) room cells.old text.now cells.new parts.1.now parts.0) }
+    ensures { IfOk result (λ parts. TakesBatch (signed_number true below)
+        (pos greatest) room cells.old text.now cells.new parts.1.now parts.0) }
 {
     let mut overs = [0u32; MOST_DATA];
     let mut marks = [Mark::Shown; MOST_DATA];
@@ -62,7 +63,8 @@ fn fill<'a>(
     ensures overs { length overs.new ≡ length overs.old }
     ensures marks { length marks.new ≡ length marks.old }
     ensures unmasked { map masks (take result.0 marks.new) ≡ replicate result.0 false }
-    ensures cells { AreData (signed_number true below) (pos greatest) text.now result.1.now (kept_cells (height_over below) (take result.0 overs.new) (take result.0 marks.new)) }
+    ensures cells { AreData (signed_number true below) (pos greatest) text.now result.1.now
+        (kept_cells (height_over below) (take result.0 overs.new) (take result.0 marks.new)) }
 {
     let mut rest = text;
     'cells: for place in 0..room {
@@ -84,7 +86,8 @@ fn next_cell(below: u32, greatest: u32, text: &[u8]) -> Option<(u32, Mark, &[u8]
     requires some { 0 < length text.now }
     requires begins { is_gap (slice_index text.now 0) ≡ true }
     ensures unmasked { IfSome result (λ parts. masks parts.1 ≡ false) }
-    ensures datum { IfSome result (λ parts. IsDatum (signed_number true below) (pos greatest) text.now parts.2.now (cell_from (height_over below) parts.0 parts.1)) }
+    ensures datum { IfSome result (λ parts. IsDatum (signed_number true below)
+        (pos greatest) text.now parts.2.now (cell_from (height_over below) parts.0 parts.1)) }
 {
     let word = &text[1..];
     if let Some((over, rest)) = leading_over(Reading::AtOnce, below, greatest, word) {
@@ -98,7 +101,8 @@ fn next_cell(below: u32, greatest: u32, text: &[u8]) -> Option<(u32, Mark, &[u8]
 fn word_cell(below: u32, greatest: u32, word: &[u8]) -> Option<(u32, Mark, &[u8])>
     requires { below + greatest < 2 ^ 32 }
     ensures unmasked { IfSome result (λ parts. masks parts.1 ≡ false) }
-    ensures datum { IfSome result (λ parts. IsDatum (signed_number true below) (pos greatest) word.now parts.2.now (cell_from (height_over below) parts.0 parts.1)) }
+    ensures datum { IfSome result (λ parts. IsDatum (signed_number true below)
+        (pos greatest) word.now parts.2.now (cell_from (height_over below) parts.0 parts.1)) }
 {
     if let Some(rest) = behind_bad(word) {
         return Some((0, Mark::Unmeasured, rest));

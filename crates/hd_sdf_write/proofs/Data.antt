@@ -40,7 +40,8 @@ data_from-parts m from to order inside =
     ap (data_text m from) count ∙ data_append m from (to - from) (cell_count m.size - to) ∙ ap (λ k. data_text m from (to - from) ++ data_text m k (cell_count m.size - to)) place
 
 -- one more datum before others
-pub data_text-before : (m : Map) (index next to : ℕ) (cell : Cell) (gap : ℕ) (at : Pos) (old middle new : List ℕ) → next ≡ index + 1 → next ≤ to → place_of m.size at ≡ index → old ≡ data_text m next (to - next)
+pub data_text-before : (m : Map) (index next to : ℕ) (cell : Cell) (gap : ℕ) (at : Pos) (old middle new : List ℕ) → next ≡ index + 1 → next ≤ to → place_of m.size at ≡ index
+    → old ≡ data_text m next (to - next)
     → middle ≡ gap ∷ old → new ≡ cell_text m.data_type cell ++ middle → cell ≡ cell_at m at → gap ≡ gap_after m.size index → new ≡ data_text m index (to - index)
 unfolding data_text
 data_text-before m index next to cell gap at old middle new one below place old_is middle_is new_is cell_is gap_is =

@@ -1,5 +1,6 @@
 -- The data of the canonical text are read as the cells that they write.
-use Rattle.std.proofs.Common.{◌≡◌, ◌+◌, ◌-◌, ◌*◌, ◌<◌, ◌≤◌, ◌≤ℤ◌, ◌&&◌, ℕ, ℤ, zero, suc, pos, negsuc, true, false, List, [], ◌∷◌, ◌++◌, length, take, drop, eqb, Some, None, Ok, refl, sym, ap, subst, arith, ◌∙◌, append_assoc, append-nil, ne_eqb}
+use Rattle.std.proofs.Common.{◌≡◌, ◌+◌, ◌-◌, ◌*◌, ◌<◌, ◌≤◌, ◌≤ℤ◌, ◌&&◌, ℕ, ℤ, zero, suc, pos, negsuc, true, false, List, [], ◌∷◌, ◌++◌, length, take}
+use Rattle.std.proofs.Common.{drop, eqb, Some, None, Ok, refl, sym, ap, subst, arith, ◌∙◌, append_assoc, append-nil, ne_eqb}
 use Rattle.std.specs.Prelude.{bytes_eq, codes, int_le}
 use Rattle.std.specs.Fmt.{signed_decimal}
 use Rattle.std.specs.Int.{w64}
@@ -82,7 +83,8 @@ IsToken-cell_text t (Height h) few fits =
     }
 
 -- and is read as its cell
-datum_read : (t : DataType) (read : ℕ) (text : List ℕ) (cell : Cell) → has_decimals t ≡ false → IsCellOf t cell → token_of text ≡ cell_text t cell → datum_at (least_height t) (greatest_height t) read text ≡ Ok cell
+datum_read : (t : DataType) (read : ℕ) (text : List ℕ) (cell : Cell) → has_decimals t ≡ false → IsCellOf t cell → token_of text ≡ cell_text t cell
+    → datum_at (least_height t) (greatest_height t) read text ≡ Ok cell
 datum_read t read text Bad whole fits is = datum_at-by_token (least_height t) (greatest_height t) read text (codes "BAD") (sym is) refl refl
 datum_read t read text (Height h) whole fits is =
     let token : List ℕ = signed_decimal h in
@@ -90,7 +92,8 @@ datum_read t read text (Height h) whole fits is =
     let some = whole_of-some (signed_decimal h) h number in
     let filled : eqb (length (signed_decimal h)) 0 ≡ false = ne_eqb (length (signed_decimal h)) 0 (λ none. omega (arith, none, some)) in
     let no_bad : bytes_eq (signed_decimal h) (codes "BAD") ≡ false = whole_of-apart (codes "BAD") (signed_decimal h) h refl number in
-    let within : (int_le (least_height t) h && int_le h (greatest_height t)) ≡ true = and_from _ _ (int_le-true (least_height t) h (fits h refl).0) (int_le-true h (greatest_height t) (fits h refl).1) in
+    let within : (int_le (least_height t) h && int_le h (greatest_height t)) ≡ true = and_from _ _ (int_le-true (least_height t) h (fits h refl).0)
+    (int_le-true h (greatest_height t) (fits h refl).1) in
     datum_at-by_token (least_height t) (greatest_height t) read text (signed_decimal h) (sym (is ∙ height_text t h whole)) filled (whole_of-apart (codes "*") (signed_decimal h) h refl number)
     ∙ rw (no_bad, number, within) refl
 
@@ -201,4 +204,5 @@ pub cells_from-profile_lines : (m : Map) (rest : List ℕ) → IsMap m → has_d
     ≡ Ok (record { cells = m.cells; rest = gaps_after m.size.profiles ++ rest })
 cells_from-profile_lines m rest whole type =
     ap (λ n. cells_from (least_height m.data_type) (greatest_height m.data_type) 0 n (profile_lines m m.size.profiles ++ rest)) (sym whole.cells)
-    ∙ cells_laid m.data_type m.cells 0 (profile_lines m m.size.profiles ++ rest) (gaps_after m.size.profiles ++ rest) type whole.places (AllFit-cells m.data_type m.cells whole.heights) (Laid-profile_lines m rest whole)
+    ∙ cells_laid m.data_type m.cells 0 (profile_lines m m.size.profiles ++ rest) (gaps_after m.size.profiles ++ rest) type whole.places
+    (AllFit-cells m.data_type m.cells whole.heights) (Laid-profile_lines m rest whole)

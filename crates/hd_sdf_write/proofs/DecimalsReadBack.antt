@@ -1,5 +1,6 @@
 -- The decimals of the canonical text are read as the cells that they write.
-use Rattle.std.proofs.Common.{◌≡◌, ◌+◌, ◌-◌, ◌*◌, ◌^◌, ◌≤◌, ℕ, ℤ, pos, negsuc, int_lt, unsigned_abs, true, false, List, [], ◌∷◌, ◌++◌, length, map, cond, Ok, refl, sym, ap, ap₂, arith, ◌∙◌, append_assoc, append-nil, ne_eqb, inl, inr}
+use Rattle.std.proofs.Common.{◌≡◌, ◌+◌, ◌-◌, ◌*◌, ◌^◌, ◌≤◌, ℕ, ℤ, pos, negsuc, int_lt, unsigned_abs, true, false, List, [], ◌∷◌, ◌++◌, length, map, cond}
+use Rattle.std.proofs.Common.{Ok, refl, sym, ap, ap₂, arith, ◌∙◌, append_assoc, append-nil, ne_eqb, inl, inr}
 use Rattle.std.specs.Prelude.{bytes_eq, codes}
 use Rattle.std.specs.List.{list_any}
 use Rattle.std.proofs.lemmas.Bool.{cases_Bool}
@@ -101,7 +102,8 @@ no_star t Bad few fits = refl
 no_star t (Height h) few fits = decimal_of-apart (codes "*") (cell_text t (Height h)) (steps_decimal h (places_of t)) decimal_of-star (decimal_of-cell_text t h few fits)
 
 -- cells whose data a text holds are read from it, behind others
-decimals_laid : (t : DataType) (p : ℕ) (before cells : List Cell) (text tail : List ℕ) → places_of t ≡ p → p ≤ most_places → AllFit t cells → greatest_in (before ++ cells) ≤ most_steps → Laid t cells text tail
+decimals_laid : (t : DataType) (p : ℕ) (before cells : List Cell) (text tail : List ℕ) → places_of t ≡ p → p ≤ most_places → AllFit t cells
+    → greatest_in (before ++ cells) ≤ most_steps → Laid t cells text tail
     → decimals_from (data_for p before) (length cells) text ≡ Ok (record { items = data_for p (before ++ cells); rest = tail })
 unfolding decimals_from
 decimals_laid t p before [] text tail is few fits small laid = ap₂ (λ (cs : List Cell) (r : List ℕ). Ok (record { items = data_for p cs; rest = r })) (sym (append-nil before)) laid
@@ -125,7 +127,8 @@ decimals_laid t p before (cell ∷ cells) text tail is few fits small laid =
 
 -- the decimals of a map are read from its lines
 pub decimals_from-profile_lines : (m : Map) (rest : List ℕ) → IsMap m → has_decimals m.data_type ≡ true
-    → decimals_from [] (m.size.profiles * m.size.points) (profile_lines m m.size.profiles ++ rest) ≡ Ok (record { items = data_for (places_of m.data_type) m.cells; rest = gaps_after m.size.profiles ++ rest })
+    → decimals_from [] (m.size.profiles * m.size.points) (profile_lines m m.size.profiles ++ rest)
+    ≡ Ok (record { items = data_for (places_of m.data_type) m.cells; rest = gaps_after m.size.profiles ++ rest })
 decimals_from-profile_lines m rest whole decimals =
     let fits = AllFit-cells m.data_type m.cells whole.heights in
     ap (λ n. decimals_from [] n (profile_lines m m.size.profiles ++ rest)) (sym whole.cells)

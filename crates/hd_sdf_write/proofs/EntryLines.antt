@@ -1,5 +1,6 @@
 -- The kind of a line of the canonical text.
-use Rattle.std.proofs.Common.{◌≡◌, ◌-◌, ◌<◌, ◌≤◌, ◌||◌, ◌&&◌, ℕ, suc, true, false, not, List, [], ◌∷◌, ◌++◌, length, get_or, eqb, ltb, leb, cond, refl, sym, ap, ap₂, subst, arith, ◌∙◌, inl, inr, length-append, append-nil, append_assoc, ne_eqb}
+use Rattle.std.proofs.Common.{◌≡◌, ◌-◌, ◌<◌, ◌≤◌, ◌||◌, ◌&&◌, ℕ, suc, true, false, not, List, [], ◌∷◌, ◌++◌, length, get_or, eqb, ltb, leb, cond, refl}
+use Rattle.std.proofs.Common.{sym, ap, ap₂, subst, arith, ◌∙◌, inl, inr, length-append, append-nil, append_assoc, ne_eqb}
 use Rattle.std.specs.Prelude.{bytes_eq, codes}
 use Rattle.std.specs.List.{list_any}
 use Rattle.std.proofs.lemmas.Bool.{and_from, and_parts, cases_Bool, le-ltb, leb-true, lt-ltb, not-true, or_from}
@@ -145,7 +146,8 @@ pub entry_text-one_line : (key value : List ℕ) → is_header_key key ≡ true 
 entry_text-one_line key [] right good = list_any-append is_line_feed key (32 ∷ 61 ∷ []) ∙ ap (λ b. b || false) (IsKeyText-good key right).line.one
 entry_text-one_line key (x ∷ xs) right good =
     let parts = and_parts (is_value (x ∷ xs)) (is_trimmed_line (x ∷ xs)) good in
-    ap (list_any is_line_feed) (entry_text-filled key x xs) ∙ list_any-append is_line_feed key (32 ∷ 61 ∷ 32 ∷ x ∷ xs) ∙ ap (λ b. b || list_any is_line_feed (32 ∷ 61 ∷ 32 ∷ x ∷ xs)) (IsKeyText-good key right).line.one ∙ (IsLine-good (x ∷ xs) parts.1).one
+    ap (list_any is_line_feed) (entry_text-filled key x xs) ∙ list_any-append is_line_feed key (32 ∷ 61 ∷ 32 ∷ x ∷ xs)
+    ∙ ap (λ b. b || list_any is_line_feed (32 ∷ 61 ∷ 32 ∷ x ∷ xs)) (IsKeyText-good key right).line.one ∙ (IsLine-good (x ∷ xs) parts.1).one
 
 -- the line that ends a header
 pub kind_of-star : kind_of (codes "*") ≡ Ends

@@ -44,7 +44,8 @@ entry_front e es rest =
     ∙ append_assoc (entry_text e.key e.value) (10 ∷ []) (extra_lines es ++ rest)
 
 -- the lines of such entries and the end of the header
-pub HeaderReads-extra_lines : (es before : List Extra) (n k : ℕ) (bytes text rest : List ℕ) → n ≡ suc k → text ≡ extra_lines es ++ (line (codes "*") ++ rest) → after_lines k bytes ≡ text → AllFollow before es
+pub HeaderReads-extra_lines : (es before : List Extra) (n k : ℕ) (bytes text rest : List ℕ) → n ≡ suc k → text ≡ extra_lines es ++ (line (codes "*") ++ rest)
+    → after_lines k bytes ≡ text → AllFollow before es
     → HeaderReads n bytes text before es rest
 HeaderReads-extra_lines [] before n k bytes text rest is whole at good = record {
   last = n;

@@ -1,5 +1,6 @@
 -- The canonical text of a file is read as this file.
-use Rattle.std.proofs.Common.{◌≡◌, ◌+◌, ◌-◌, ◌*◌, ℕ, zero, suc, false, List, [], ◌∷◌, ◌++◌, take, drop, Option, Some, Ok, inl, inr, refl, sym, ap, ap₂, ◌∙◌, append_assoc, append-nil, true, length, eqb, ltb, cond, subst, arith, ne_eqb}
+use Rattle.std.proofs.Common.{◌≡◌, ◌+◌, ◌-◌, ◌*◌, ℕ, zero, suc, false, List, [], ◌∷◌, ◌++◌, take, drop, Option, Some, Ok, inl, inr, refl, sym, ap, ap₂}
+use Rattle.std.proofs.Common.{◌∙◌, append_assoc, append-nil, true, length, eqb, ltb, cond, subst, arith, ne_eqb}
 use Rattle.std.specs.Prelude.{codes, ok_or, bytes_eq}
 use Rattle.std.specs.Fmt.{decimal}
 use Rattle.std.specs.List.{flat_map, list_any, list_all}
@@ -23,7 +24,8 @@ use Rattle.hd_sdf_read.specs.Tokens.{is_gap, after_token, token_of}
 use Rattle.hd_sdf_read.specs.Grammar.{after_lines, file_in, file_with, map_with, mapped, version_of, version_of_line, trailer_of}
 use Rattle.hd_sdf_read.specs.Keys.{has_decimals, with_places}
 use Rattle.hd_sdf_read.proofs.Grammar.{mapped-decimals, body_in-whole_body, file_in-whole_header, mapped-whole_numbers}
-use Rattle.hd_sdf_write.specs.Canonical.{as_read, canonical, cell_text, encoding_lines, end_lines, entry_line, extra_lines, is_height, line, name_lines, profile, profile_lines, scale_lines, spaced, type_read, typed, version_text}
+use Rattle.hd_sdf_write.specs.Canonical.{as_read, canonical, cell_text, encoding_lines, end_lines, entry_line, extra_lines, is_height, line, name_lines}
+use Rattle.hd_sdf_write.specs.Canonical.{profile, profile_lines, scale_lines, spaced, type_read, typed, version_text}
 use Rattle.hd_sdf_read.proofs.TextFronts.{after_line-front, lines_of-front, after_token-front, token_of-front, trimmed_by-around}
 use Rattle.hd_sdf_read.proofs.Trims.{IsTrimmed, IsTrimmed-trimmed_by}
 use Rattle.hd_sdf_write.proofs.HeaderText.{HeaderReads-extra_lines}
@@ -33,7 +35,8 @@ use Rattle.hd_sdf_write.proofs.DataReadBack.{gaps_after-are_gaps, gaps_after, ce
 use Rattle.hd_sdf_write.proofs.DecimalsReadBack.{cells_at-most_places, data_for, decimals_from-profile_lines, type_read-with_places}
 
 -- the lines of the known entries
-known_group : (a b c d e f g h i j k l : List ℕ) → ((a ++ b ++ c ++ d ++ e) ++ (f ++ g ++ h ++ i)) ++ (j ++ k ++ l) ≡ a ++ (b ++ (c ++ (d ++ (e ++ (f ++ (g ++ (h ++ (i ++ (j ++ (k ++ (l ++ [])))))))))))
+known_group : (a b c d e f g h i j k l : List ℕ) → ((a ++ b ++ c ++ d ++ e) ++ (f ++ g ++ h ++ i)) ++ (j ++ k ++ l) ≡ a
+    ++ (b ++ (c ++ (d ++ (e ++ (f ++ (g ++ (h ++ (i ++ (j ++ (k ++ (l ++ [])))))))))))
 known_group a b c d e f g h i j k l = simp (append_assoc, append-nil) refl
 
 known_lines : (f : File) → name_lines f ++ scale_lines f ++ encoding_lines f ≡ extra_lines (known f)
@@ -62,7 +65,8 @@ unfolding canonical
 canonical_is f =
     let entries : name_lines f ++ scale_lines f ++ encoding_lines f ++ extra_lines f.extra ≡ extra_lines (entries_of f) =
     ap (λ (t : List ℕ). t ++ extra_lines f.extra) (known_lines f) ∙ sym (flat_map-append (λ (e : Extra). entry_line e.key e.value) (known f) f.extra) in
-    parts_group (line (version_text f.version)) (name_lines f) (scale_lines f) (encoding_lines f) (extra_lines f.extra) (line (codes "*")) (profile_lines f.map f.map.size.profiles) (end_lines f.trailer)
+    parts_group (line (version_text f.version)) (name_lines f) (scale_lines f) (encoding_lines f) (extra_lines f.extra) (line (codes "*")) (profile_lines f.map f.map.size.profiles)
+    (end_lines f.trailer)
     ∙ ap (λ (t : List ℕ). line (version_text f.version) ++ (t ++ (line (codes "*") ++ data_text f))) entries
     ∙ append_assoc (version_text f.version) (10 ∷ []) (header_text f)
 
@@ -137,17 +141,21 @@ whole_type_read m whole = elim (cases_Bool (list_any is_height m.cells)) [
 
 -- the map of a file is read from its lines
 map_reads : (f : File) → IsMap f.map
-    → mapped f.map.size (with_places f.map.data_type 0) (data_text f) ≡ Ok (record { map = map_with f.map.size (type_read f.map) f.map.cells; rest = gaps_after f.map.size.profiles ++ end_lines f.trailer })
+    → mapped f.map.size (with_places f.map.data_type 0) (data_text f) ≡ Ok (record
+    { map = map_with f.map.size (type_read f.map) f.map.cells; rest = gaps_after f.map.size.profiles ++ end_lines f.trailer })
 map_reads f whole = elim (cases_Bool (has_decimals f.map.data_type)) [
   | inl type ↦
       let m : Map = f.map in
       let p : ℕ = places_of m.data_type in
-      mapped-decimals m.size (with_places m.data_type 0) (data_text f) (record { items = data_for p m.cells; rest = gaps_after m.size.profiles ++ end_lines f.trailer }) (same_kind m.data_type ∙ type) (decimals_from-profile_lines m (end_lines f.trailer) whole type)
-      ∙ ap₂ (λ (t : DataType) (cells : List Cell). Ok (record { map = map_with m.size t cells; rest = gaps_after m.size.profiles ++ end_lines f.trailer })) (type_read-with_places m type) (cells_at-most_places m)
+      mapped-decimals m.size (with_places m.data_type 0) (data_text f) (record { items = data_for p m.cells; rest = gaps_after m.size.profiles ++ end_lines f.trailer })
+      (same_kind m.data_type ∙ type) (decimals_from-profile_lines m (end_lines f.trailer) whole type)
+      ∙ ap₂ (λ (t : DataType) (cells : List Cell). Ok (record { map = map_with m.size t cells; rest = gaps_after m.size.profiles ++ end_lines f.trailer }))
+      (type_read-with_places m type) (cells_at-most_places m)
   | inr type ↦
       let m : Map = f.map in
       ap (λ (t : DataType). mapped m.size t (data_text f)) (whole_type m.data_type type)
-      ∙ mapped-whole_numbers m.size m.data_type (data_text f) (record { cells = m.cells; rest = gaps_after m.size.profiles ++ end_lines f.trailer }) type (cells_from-profile_lines m (end_lines f.trailer) whole type)
+      ∙ mapped-whole_numbers m.size m.data_type (data_text f) (record { cells = m.cells; rest = gaps_after m.size.profiles ++ end_lines f.trailer }) type
+      (cells_from-profile_lines m (end_lines f.trailer) whole type)
       ∙ ap (λ (t : DataType). Ok (record { map = map_with m.size t m.cells; rest = gaps_after m.size.profiles ++ end_lines f.trailer })) (whole_type_read m type)
 ]
 
@@ -163,7 +171,8 @@ file_in-canonical f whole forms =
     ap (λ (ls : List (List ℕ)). header_from 2 [] (drop 1 ls)) lines ∙ reads.header in
     let trailer = trailer_of-end_lines (f.map.size.profiles * f.map.size.points) (gaps_after f.map.size.profiles) f.trailer (gaps_after-are_gaps f.map.size.profiles) forms.trailer in
     file_in-whole_header (canonical f) f.version (record { entries = entries_of f; last = reads.last }) (data_text f) version header reads.rest_is
-    ∙ body_in-whole_body f.version (entries_of f) (data_text f) (required_keys_for f) (record { map = map_with f.map.size (type_read f.map) f.map.cells; rest = gaps_after f.map.size.profiles ++ end_lines f.trailer }) f.trailer
+    ∙ body_in-whole_body f.version (entries_of f) (data_text f) (required_keys_for f)
+    (record { map = map_with f.map.size (type_read f.map) f.map.cells; rest = gaps_after f.map.size.profiles ++ end_lines f.trailer }) f.trailer
     (required_keys_of-entries_of f whole forms) (map_reads f whole) trailer
     ∙ ap (λ (x : File). Ok x) (parts_are f forms)
 

@@ -15,7 +15,8 @@ use Rattle.hd_sdf_write.specs.Canonical.{cell_text, profile, spaced}
 spaced_push : (data_type : DataType) (cells : List Cell) (cell : Cell) → 0 < length cells → spaced data_type (cells ++ cell ∷ []) ≡ (spaced data_type cells ++ 32 ∷ []) ++ cell_text data_type cell
 spaced_push data_type [] cell some = absurd (omega arith)
 spaced_push data_type (first ∷ cells) cell some =
-    ap (λ t. cell_text data_type first ++ t) (flat_map-append (λ c. 32 ∷ cell_text data_type c) cells (cell ∷ []) ∙ ap (λ t. flat_map (λ c. 32 ∷ cell_text data_type c) cells ++ (32 ∷ t)) (append-nil (cell_text data_type cell)))
+    ap (λ t. cell_text data_type first ++ t) (flat_map-append (λ c. 32 ∷ cell_text data_type c) cells (cell ∷ [])
+    ∙ ap (λ t. flat_map (λ c. 32 ∷ cell_text data_type c) cells ++ (32 ∷ t)) (append-nil (cell_text data_type cell)))
     ∙ sym (append_assoc (cell_text data_type first) (flat_map (λ c. 32 ∷ cell_text data_type c) cells) (32 ∷ cell_text data_type cell))
     ∙ sym (append_assoc (spaced data_type (first ∷ cells)) (32 ∷ []) (cell_text data_type cell))
 

@@ -76,7 +76,8 @@ fn write_cell(text: &mut [u8], end: usize, cell: Cell, places: u8) -> usize
     requires few { places ≤ most_places }
     requires room { 40 ≤ end }
     requires within { end ≤ length text.old }
-    ensures text { (t : DataType) → places_of t ≡ places → drop result text.new ≡ cell_text t cell ++ drop end text.old }
+    ensures text { (t : DataType) → places_of t ≡ places
+        → drop result text.new ≡ cell_text t cell ++ drop end text.old }
     ensures short { end ≤ result + 40 }
     ensures start { result ≤ end }
 {

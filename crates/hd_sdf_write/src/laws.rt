@@ -14,7 +14,8 @@ pub fn canonical_text_reads_back()
 
 /// The file that a canonical text is read as has the same canonical text.
 pub fn canonical_text_stays()
-    ensures { (file again : File) → IsMap file.map → HasForms file → file_in (canonical file) ≡ Ok again → canonical again ≡ canonical file }
+    ensures { (file again : File) → IsMap file.map → HasForms file
+        → file_in (canonical file) ≡ Ok again → canonical again ≡ canonical file }
 {}
 
 /// The canonical text of a file does not tell the masks of its map, nor which points are neighbours.

@@ -104,7 +104,8 @@ length-mapped : (fs gs : List (Kept × Option Frac)) → map (λ f. f.0) fs ≡ 
 length-mapped fs gs pits = sym (length-map fs (λ (f : Kept × Option Frac). f.0)) ∙ ap length pits ∙ length-map gs (λ (f : Kept × Option Frac). f.0)
 
 -- the same kept pits with the same volumes have the same lines
-same_lines : (size : Size) (fs gs : List (Kept × Option Frac)) → map (λ f. f.0) fs ≡ map (λ f. f.0) gs → AreSameFills (map (λ f. f.1) fs) (map (λ f. f.1) gs) → volume_lines size fs ≡ volume_lines size gs
+same_lines : (size : Size) (fs gs : List (Kept × Option Frac)) → map (λ f. f.0) fs ≡ map (λ f. f.0) gs → AreSameFills (map (λ f. f.1) fs) (map (λ f. f.1) gs)
+    → volume_lines size fs ≡ volume_lines size gs
 same_lines size [] [] pits same = refl
 same_lines size [] (g ∷ gs) pits same = absurd same
 same_lines size (f ∷ fs) [] pits same = absurd same
@@ -243,7 +244,8 @@ module _ (one : Determine) (s : State) (number : ℕ) (a b : Reply) (s' s'' : St
   share-one above word (Ok n) x y =
       let features = one.features s.map (side_of n.kind) n.percent.thousandths x.is.features y.is.features whole.map x.is.are y.is.are in
       let same = one.shares n y.is.features above x.share y.share (subst (λ (rs : List Region). IsPerc n rs above x.share) features x.is.is) y.is.is in
-      reports-same s s' s'' _ _ a b (ap (λ text. accepted_with (codes "perc " ++ signed_decimal above ++ 32 ∷ [] ++ word ++ 32 ∷ [] ++ text ++ 10 ∷ [])) (same_text x.share y.share same)) x.answer y.answer
+      reports-same s s' s'' _ _ a b (ap (λ text. accepted_with (codes "perc " ++ signed_decimal above ++ 32 ∷ [] ++ word ++ 32 ∷ [] ++ text ++ 10 ∷ []))
+      (same_text x.share y.share same)) x.answer y.answer
   share-one above word (Err error) x y = reports-one s s' s'' _ a b x y
 
   command-one : (asked : Command) → IsCommandAnswer s number asked a s' → IsCommandAnswer s number asked b s'' → Agrees a b s' s''
@@ -283,7 +285,8 @@ pub record OneLine : Type 0 where
   pub keeps : (s : State) (number : ℕ) (line : List ℕ) (a : Reply) (s' : State) → IsState s → IsAnswer s number line a s' → IsState s'
 
 -- the lines of a script have one answer on a state
-pub AreAnswers-unique : OneLine → (s : State) (number : ℕ) (lines : List (List ℕ)) (a b : Reply) (s' s'' : State) → IsState s → AreAnswers s number lines a s' → AreAnswers s number lines b s'' → Agrees a b s' s''
+pub AreAnswers-unique : OneLine → (s : State) (number : ℕ) (lines : List (List ℕ)) (a b : Reply) (s' s'' : State) → IsState s → AreAnswers s number lines a s'
+    → AreAnswers s number lines b s'' → Agrees a b s' s''
 AreAnswers-unique known s number [] a b s' s'' whole x y = reports-one s s' s'' _ a b x y
 AreAnswers-unique known s number (line ∷ lines) a b s' s'' whole (first, middle, others, is, are, reply) (first', middle', others', is', are', reply') =
     let same = known.one s number line first first' middle middle' whole is is' in

@@ -88,7 +88,11 @@ module _ (keeps : KeepsMaps) (s : State) (number : ℕ) (reply : Reply) (after :
   command-keeps (command.Element name width height table) is = made-keeps is.made is.answer
   command-keeps command.Elements is = stays s after _ reply whole is
   command-keeps (command.Neighbours adjacency) is =
-      subst IsState (sym is.state) (record { map = under-whole adjacency s.map whole.map; earlier = All-map IsMap (under adjacency) s.earlier (All-weaker IsMap (λ m. IsMap (under adjacency m)) (under-whole adjacency) s.earlier whole.earlier) })
+      subst IsState (sym is.state) (record {
+        map = under-whole adjacency s.map whole.map;
+        earlier = All-map IsMap (under adjacency) s.earlier (All-weaker IsMap
+            (λ m. IsMap (under adjacency m)) (under-whole adjacency) s.earlier whole.earlier);
+      })
   command-keeps command.Info is = stays s after _ reply whole is
   command-keeps command.Dales is = stays s after _ reply whole is.answer
   command-keeps command.Hills is = stays s after _ reply whole is.answer

@@ -75,7 +75,8 @@ module _ (one : DetermineSaddles) (m : Map) (side : SideName) where
         (unless-one (Present m b) _ _ _ _ (r ≡ t) (λ x y. x ∙ sym y) pair-one)))
 
 -- and leaves one state
-pub IsSaddleAnswer-unique : DetermineSaddles → (s s' s'' : State) (number : ℕ) (side : SideName) (a b : Pos) (r t : Reply) → IsSaddleAnswer s number side a b r s' → IsSaddleAnswer s number side a b t s''
+pub IsSaddleAnswer-unique : DetermineSaddles → (s s' s'' : State) (number : ℕ) (side : SideName) (a b : Pos) (r t : Reply) → IsSaddleAnswer s number side a b r s'
+    → IsSaddleAnswer s number side a b t s''
     → (r ≡ t) × (s' ≡ s'')
 IsSaddleAnswer-unique one s s' s'' number side a b r t x y = (reply-one one s.map side number a b r t x.told y.told, x.stays ∙ sym y.stays)
 

@@ -26,7 +26,8 @@ use hd_steep::root_is_determined;
 
 /// A line has one answer on a state, and one state after it.
 pub fn answer_is_determined()
-    ensures { (s : State) (number : ℕ) (line : List ℕ) (a b : Reply) (s' s'' : State) → IsState s → IsAnswer s number line a s' → IsAnswer s number line b s'' → (a ≡ b) × (s' ≡ s'') }
+    ensures { (s : State) (number : ℕ) (line : List ℕ) (a b : Reply) (s' s'' : State) → IsState s
+        → IsAnswer s number line a s' → IsAnswer s number line b s'' → (a ≡ b) × (s' ≡ s'') }
 {
     edit_is_determined();
     root_is_determined();
@@ -45,7 +46,9 @@ pub fn answer_is_determined()
 
 /// The lines of a script have one answer on a state, and one state after them.
 pub fn answers_are_determined()
-    ensures { (s : State) (number : ℕ) (lines : List (List ℕ)) (a b : Reply) (s' s'' : State) → IsState s → AreAnswers s number lines a s' → AreAnswers s number lines b s'' → (a ≡ b) × (s' ≡ s'') }
+    ensures { (s : State) (number : ℕ) (lines : List (List ℕ)) (a b : Reply) (s' s'' : State)
+        → IsState s → AreAnswers s number lines a s' → AreAnswers s number lines b s'' → (a ≡ b)
+        × (s' ≡ s'') }
 {
     answer_is_determined();
     answer_keeps_a_state();
@@ -53,7 +56,8 @@ pub fn answers_are_determined()
 
 /// A line leaves maps: the present one, and each earlier one.
 pub fn answer_keeps_a_state()
-    ensures kept { (s : State) (number : ℕ) (line : List ℕ) (a : Reply) (s' : State) → IsState s → IsAnswer s number line a s' → IsState s' }
+    ensures kept { (s : State) (number : ℕ) (line : List ℕ) (a : Reply) (s' : State) → IsState s
+        → IsAnswer s number line a s' → IsState s' }
     ensures first { (file : File) → IsMap file.map → IsState (first_state file) }
 {
     edits_keep_maps();
@@ -64,7 +68,8 @@ pub fn answer_keeps_a_state()
 /// Each accepted `saddle` line prints a certificate of the pits of its two points, the first point's
 /// as `from`, that is right on the map at that line.
 pub fn printed_certificate_is_right()
-    ensures { (s : State) (number : ℕ) (line : List ℕ) (side : SideName) (a b : Pos) (reply : Reply) (after : State) → script_line line ≡ Ok (Some (Saddle side a b))
+    ensures { (s : State) (number : ℕ) (line : List ℕ) (side : SideName) (a b : Pos) (reply : Reply)
+        (after : State) → script_line line ≡ Ok (Some (Saddle side a b))
         → IsAnswer s number line reply after → reply.accepted ≡ true → PrintsRight s.map side a b reply }
 {
     shown_certificate_is_right();
@@ -72,7 +77,8 @@ pub fn printed_certificate_is_right()
 
 /// Each `audit` line prints a certificate of its side and percent that is right on the map at that line.
 pub fn printed_pruning_certificate_is_right()
-    ensures { (s : State) (number : ℕ) (line : List ℕ) (side : SideName) (percent : Percent) (reply : Reply) (after : State) → script_line line ≡ Ok (Some (Audit side percent))
+    ensures { (s : State) (number : ℕ) (line : List ℕ) (side : SideName) (percent : Percent)
+        (reply : Reply) (after : State) → script_line line ≡ Ok (Some (Audit side percent))
         → IsState s → IsAnswer s number line reply after → PrintsRightAudit s.map side percent reply }
 {
     shown_pruning_certificate_is_right();

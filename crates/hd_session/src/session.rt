@@ -34,7 +34,8 @@ pub trait SurfaceSession: Drop + Sized {
     /// earlier maps, the elements and the setting of the neighbours are then as before.
     fn answer_line(&mut self, number: u64, line: &[u8]) -> Result<Answer, Memory>
         requires { asked self.old < 16777216 }
-        ensures ok { IfOk result (λ a. IsAnswer (state self.old) number line.now (reply_of a) (state self.new)) }
+        ensures ok { IfOk result (λ a. IsAnswer (state self.old) number line.now (reply_of a)
+            (state self.new)) }
         ensures memory { OnErr result (state self.new ≡ state self.old) }
         ensures asked { asked self.new ≡ asked self.old + 1 };
 

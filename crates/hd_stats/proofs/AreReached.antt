@@ -40,7 +40,8 @@ AreReached-none m side kept = record {
 }
 
 -- a kept pit lies below its nearest saddle
-pub rank-pit_low : (m : Map) (side : SideName) (kept : List Kept) (w : AreNearest m side kept) (n : ℕ) (k : Kept) (s : Rank) (from : Pos) → slice_get kept n ≡ Some k → k.nearest ≡ Some s → InGrid m.size from → place_of m.size from ≡ k.pit.index
+pub rank-pit_low : (m : Map) (side : SideName) (kept : List Kept) (w : AreNearest m side kept) (n : ℕ) (k : Kept) (s : Rank) (from : Pos) → slice_get kept n ≡ Some k
+    → k.nearest ≡ Some s → InGrid m.size from → place_of m.size from ≡ k.pit.index
     → (rank m from ≡ k.pit) × LiesWithin m side (Some s) true from
 rank-pit_low m side kept w n k s from is e there place =
     let pit = w.pits k.pit (pit-listed m side kept w n k.pit (pit-read m side kept w n k is)) in
@@ -51,7 +52,8 @@ rank-pit_low m side kept w n k s from is e there place =
     let down = saddle-above_pit m side k.pit nearest.reached.0 s pit (λ f. nearest.reached.2 (sym f)) nearest.reached.3 in
     (same, record { present = subst (Present m) at point.present; low = subst (λ (r : Rank). below_by side r s ≡ true) (sym same) down })
 
-module _ (m : Map) (side : SideName) (whole : IsMap m) (kept : List Kept) (w : AreNearest m side kept) (n : ℕ) (old : List (Option ℕ)) (are : AreReached m side kept n old) (k : Kept) (is : slice_get kept n ≡ Some k) where
+module _ (m : Map) (side : SideName) (whole : IsMap m) (kept : List Kept) (w : AreNearest m side kept) (n : ℕ) (old : List (Option ℕ)) (are : AreReached m side kept n old)
+    (k : Kept) (is : slice_get kept n ≡ Some k) where
   -- one without a nearest saddle reaches nothing
   pub AreReached-same : k.nearest ≡ None → AreReached m side kept (n + 1) old
   AreReached-same none = record {
@@ -103,8 +105,13 @@ module _ (m : Map) (side : SideName) (whole : IsMap m) (kept : List Kept) (w : A
       noted-at : (p : Pos) (i : ℕ) → InGrid m.size p → get_or new (place_of m.size p) None ≡ Some i → (x : Rank) × (i < n + 1) × (x.index ≡ place_of m.size p) × IsReachedBy m side kept i x
       noted-at p i there noted = elim (Option-some_or_none (steps_at m.size known.steps p)) [
         | inl some ↦
-            let same : n ≡ i = same_Some n i (sym (noted-steps p there some.0 some.1) ∙ noted) in
-            (rank m p, omega (arith, same), refl, subst (λ j. IsReachedBy m side kept j (rank m p)) same (reached-by p (IsReachedLow-steps m side (Some s) from known.steps known.are p there some.0 some.1)))
+            let same : n ≡ i = same_Some n i (sym (noted-steps p there some.0 some.1) ∙ noted) in (
+              rank m p,
+              omega (arith, same),
+              refl,
+              subst (λ j. IsReachedBy m side kept j (rank m p)) same
+                  (reached-by p (IsReachedLow-steps m side (Some s) from known.steps known.are p there some.0 some.1)),
+            )
         | inr none ↦
             let x = (are.exactly (place_of m.size p) i).0 (sym (noted-before p there none) ∙ noted) in
             let less = x.1 in

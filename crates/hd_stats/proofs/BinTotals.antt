@@ -24,7 +24,8 @@ bins-next g n = ap (over_bins g) (let same : suc n ≡ n + 1 = omega arith in sa
 -- a bin that is not among them
 none-at : (b n : ℕ) → n ≤ b → over_bins (one_at b) n ≡ 0
 none-at b zero past = refl
-none-at b (suc n) past = (let more = bins-next (one_at b) n in let rest = none-at b n (omega (arith, past)) in let here = one_at-other b n (λ e. omega (arith, e, past)) in omega (arith, more, rest, here))
+none-at b (suc n) past = (let more = bins-next (one_at b) n in let rest = none-at b n (omega (arith, past)) in let here = one_at-other b n (λ e. omega (arith, e, past)) in omega
+    (arith, more, rest, here))
 
 -- a bin among them is one of them
 one-among : (b n : ℕ) → b < n → over_bins (one_at b) n ≡ 1

@@ -48,8 +48,10 @@ module _ (f : ℤ → ℕ) where
       ]
 
   -- the same with the bin and the count that were read
-  pub count_by-next : (values : List ℤ) (i : ℕ) (d : ℤ) (counts : List ℕ) (bins bin now : ℕ) → i < length values → length counts ≡ bins → bin < bins → bin ≡ f (get_or values i d) → now ≡ get_or counts bin now
-      → ((k : ℕ) → k < bins → get_or counts k 0 ≡ count_by (λ v. f v == k) (take i values)) → (k : ℕ) → k < bins → get_or (set counts bin (now + 1)) k 0 ≡ count_by (λ v. f v == k) (take (i + 1) values)
+  pub count_by-next : (values : List ℤ) (i : ℕ) (d : ℤ) (counts : List ℕ) (bins bin now : ℕ) → i < length values → length counts ≡ bins → bin < bins → bin ≡ f (get_or values i d)
+      → now ≡ get_or counts bin now
+      → ((k : ℕ) → k < bins → get_or counts k 0 ≡ count_by (λ v. f v == k) (take i values)) → (k : ℕ) → k < bins
+      → get_or (set counts bin (now + 1)) k 0 ≡ count_by (λ v. f v == k) (take (i + 1) values)
   count_by-next values i d counts bins bin now inside whole within is read each k below =
       let was : now ≡ get_or counts bin 0 = read ∙ get_or_default_zero counts bin now (omega (arith, within, whole)) in
       ap₂ (λ b n. get_or (set counts b (n + 1)) k 0) is (was ∙ ap (λ b. get_or counts b 0) is) ∙ count_by-more values i d counts bins inside whole (subst (λ b. b < bins) is within) each k below
@@ -57,13 +59,16 @@ module _ (f : ℤ → ℕ) where
   -- a count is no greater than the number of values
   pub count_by-few : (values : List ℤ) (i : ℕ) (counts : List ℕ) (bins bin now : ℕ) → length counts ≡ bins → bin < bins → now ≡ get_or counts bin now
       → ((k : ℕ) → k < bins → get_or counts k 0 ≡ count_by (λ v. f v == k) (take i values)) → now ≤ i
-  count_by-few values i counts bins bin now whole within read each = (let is : now ≡ count_by (λ v. f v == bin) (take i values) = read ∙ get_or_default_zero counts bin now (omega (arith, within, whole)) ∙ each bin within in let k : ℕ = bin in let most = count_by-le-length (λ v. f v == k) (take i values) in let long = length-take i values in omega (arith, is, most, long))
+  count_by-few values i counts bins bin now whole within read each = (let is : now ≡ count_by (λ v. f v == bin) (take i values) = read
+      ∙ get_or_default_zero counts bin now (omega (arith, within, whole)) ∙ each bin within in let k : ℕ = bin in let most = count_by-le-length (λ v. f v == k) (take i values) in
+      let long = length-take i values in omega (arith, is, most, long))
 
 ints_apart : (a b : ℤ) → (a ≡ b → ⊥) → int_eq a b ≡ false
 ints_apart a b h = grind (arith, ints, nat_tests)
 
 -- the bin where the least and the greatest value are different
-pub bin_of-apart : (lo hi : ℤ) (bins : ℕ) (v : ℤ) (over under most place : ℕ) → (lo ≡ hi → ⊥) → over ≡ unsigned_abs (v -ℤ lo) → under ≡ unsigned_abs (hi -ℤ lo) → most ≡ bins - 1 → place ≡ over * bins / under
+pub bin_of-apart : (lo hi : ℤ) (bins : ℕ) (v : ℤ) (over under most place : ℕ) → (lo ≡ hi → ⊥) → over ≡ unsigned_abs (v -ℤ lo) → under ≡ unsigned_abs (hi -ℤ lo) → most ≡ bins - 1
+    → place ≡ over * bins / under
     → min most place ≡ bin_of lo hi bins v
 bin_of-apart lo hi bins v over under most place apart is is' is_most at =
     ap₂ min is_most (at ∙ ap₂ (λ n d. n * bins / d) is is') ∙ ap (λ b. cond b 0 (min (bins - 1) (unsigned_abs (v -ℤ lo) * bins / unsigned_abs (hi -ℤ lo)))) (sym (ints_apart lo hi apart))
@@ -74,5 +79,6 @@ pub AreCounts-bins : (values : List ℤ) (i bins : ℕ) (counts : List ℕ) → 
 AreCounts-bins values i bins counts some past whole each = record {
   some = some;
   many = whole;
-  each = λ k below. slice_get-get_or counts k 0 (omega (arith, below, whole)) ∙ ap Some (each k below ∙ ap (count_by (λ v. bin_of (least values) (greatest values) bins v == k)) (take_all i values past));
+  each = λ k below. slice_get-get_or counts k 0 (omega (arith, below, whole)) ∙ ap Some
+      (each k below ∙ ap (count_by (λ v. bin_of (least values) (greatest values) bins v == k)) (take_all i values past));
 }

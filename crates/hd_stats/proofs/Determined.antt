@@ -44,7 +44,8 @@ module _ (fractions : FractionsAreDetermined) where
   under-some Sa heights some = square (length heights) some
   under-some (Smr c) heights some = some
 
-  pub IsHeightParameter-unique : (name : HeightName) (heights : List ℤ) (a b : Option Frac) → MatchOption a (heights ≡ []) (IsHeightParameter name heights) → MatchOption b (heights ≡ []) (IsHeightParameter name heights) → AreSameValues a b
+  pub IsHeightParameter-unique : (name : HeightName) (heights : List ℤ) (a b : Option Frac) → MatchOption a (heights ≡ []) (IsHeightParameter name heights)
+      → MatchOption b (heights ≡ []) (IsHeightParameter name heights) → AreSameValues a b
   IsHeightParameter-unique name heights (Some f) (Some g) x y = fractions (over name heights) (under name heights) f.num f.den g.num g.den (under-some name heights x.some) x.fraction y.fraction
   IsHeightParameter-unique name heights (Some f) None x y = empty heights y x.some
   IsHeightParameter-unique name heights None (Some g) x y = empty heights x y.some
@@ -61,8 +62,10 @@ module _ (fractions : FractionsAreDetermined) where
     volume-one p s f g x y =
         let a = x.are_filled in
         let b = y.are_filled in
-        let same : x.points ≡ y.points = same_in_order (λ (p : Rank) (q : Rank). p.index < q.index) (λ p q h k. omega arith) x.points y.points a.in_order b.in_order (λ z. (λ h. (b.exactly z).1 ((a.exactly z).0 h), λ h. (a.exactly z).1 ((b.exactly z).0 h))) in
-        fractions (pos (sum_by (λ z. local_height z s) y.points)) 1 f.num f.den g.num g.den (omega arith) (subst (λ (xs : List Rank). IsFraction (pos (sum_by (λ z. local_height z s) xs)) 1 f.num f.den) same x.fraction) y.fraction
+        let same : x.points ≡ y.points = same_in_order (λ (p : Rank) (q : Rank). p.index < q.index) (λ p q h k. omega arith) x.points y.points a.in_order b.in_order
+        (λ z. (λ h. (b.exactly z).1 ((a.exactly z).0 h), λ h. (a.exactly z).1 ((b.exactly z).0 h))) in
+        fractions (pos (sum_by (λ z. local_height z s) y.points)) 1 f.num f.den g.num g.den (omega arith)
+        (subst (λ (xs : List Rank). IsFraction (pos (sum_by (λ z. local_height z s) xs)) 1 f.num f.den) same x.fraction) y.fraction
 
     no-nearest : (last : List Rank) (p s : Rank) → NearestSaddleIs m side last p None → IsNearestSaddle m side last p s → ⊥
     no-nearest last p s none is = none is.reached.0 s is.reached.1 is.reached.2 is.reached.3

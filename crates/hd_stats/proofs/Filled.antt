@@ -126,7 +126,8 @@ module _ (m : Map) (side : SideName) (whole : IsMap m) (kept : List Kept) (w : A
     volume-is volumes v =
         v.each i (slice_get_within kept i k is) ∙ sum-filtered (reaches i) rank_of (λ x. local_height x s) at_index added-here added-nothing (range_with_len 0 (length reached))
 
-  value-fill : (i : ℕ) (k : Kept) (volumes : List ℕ) (value : Option Frac) → slice_get kept i ≡ Some k → AreVolumes m kept reached (length reached) volumes → IsValueOf k.nearest (get_or volumes i 0) value
+  value-fill : (i : ℕ) (k : Kept) (volumes : List ℕ) (value : Option Frac) → slice_get kept i ≡ Some k → AreVolumes m kept reached (length reached) volumes
+      → IsValueOf k.nearest (get_or volumes i 0) value
       → IsFill m side (pits_kept kept) k.pit value
   value-fill i k volumes None is v of = subst (NearestSaddleIs m side (pits_kept kept) k.pit) of (w.nearest k (kept-listed m side kept w i k is))
   value-fill i k volumes (Some f) is v of = (
@@ -135,7 +136,8 @@ module _ (m : Map) (side : SideName) (whole : IsMap m) (kept : List Kept) (w : A
     record { points = filled i; are_filled = are-filled i k of.0 is of.1; fraction = subst (λ n. IsFraction (pos n) 1 f.num f.den) (volume-is i k of.0 is of.1 volumes v) of.2 },
   )
 
-  pub AreFills-listed : (volumes : List ℕ) (values : List (Option Frac)) → AreVolumes m kept reached (length reached) volumes → AreValues kept volumes (length kept) values → AreFills m side kept values
+  pub AreFills-listed : (volumes : List ℕ) (values : List (Option Frac)) → AreVolumes m kept reached (length reached) volumes → AreValues kept volumes (length kept) values
+      → AreFills m side kept values
   AreFills-listed volumes values v of = record {
     whole = of.whole;
     each = λ i k value is at. value-fill i k volumes value is v (of.each i k value (slice_get_within kept i k is) is at);

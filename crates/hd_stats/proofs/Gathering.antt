@@ -9,14 +9,16 @@ use Rattle.hd_map.proofs.Points.{position_at-of}
 use Rattle.hd_map.proofs.Presences.{heights_more}
 
 -- the heights with that of one more point, as it was read
-pub heights_below-read : (m : Map) (at : Pos) (height : Option ℤ) → InGrid m.size at → height ≡ height_at m at → heights_below m (place_of m.size at + 1) ≡ heights_below m (place_of m.size at) ++ cons_option height []
+pub heights_below-read : (m : Map) (at : Pos) (height : Option ℤ) → InGrid m.size at → height ≡ height_at m at
+    → heights_below m (place_of m.size at + 1) ≡ heights_below m (place_of m.size at) ++ cons_option height []
 heights_below-read m at height inside here =
     heights_more m (place_of m.size at) ∙ ap (λ h. heights_below m (place_of m.size at) ++ cons_option h []) (ap (height_at m) (position_at-of m.size at inside) ∙ sym here)
 
 -- no more than so many heights
 pub heights_below-few : (m : Map) (n : ℕ) → length (heights_below m n) ≤ n
 heights_below-few m zero = omega arith
-heights_below-few m (suc n) = rw (let more : suc n ≡ n + 1 = omega arith in ap (λ k. length (heights_below m k)) more ∙ ap length (heights_more m n)) (one (heights_below m n) (height_at m (position_at m.size n)) (heights_below-few m n))
+heights_below-few m (suc n) = rw (let more : suc n ≡ n + 1 = omega arith in ap (λ k. length (heights_below m k)) more ∙ ap length (heights_more m n))
+    (one (heights_below m n) (height_at m (position_at m.size n)) (heights_below-few m n))
   where
     one : (heights : List ℤ) (height : Option ℤ) → length heights ≤ n → length (heights ++ cons_option height []) ≤ suc n
     one heights None few = rw (append-nil heights) (omega (arith, few))

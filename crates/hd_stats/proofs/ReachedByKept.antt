@@ -43,14 +43,16 @@ module _ (m : Map) (side : SideName) where
   IsReachedBelow-point s p x r = (let j = IsReachedBelow-joined s p x r in reach-point m side j.0 r.path.point j.2)
 
   -- no pit of the set is joined with another below the nearest saddle of that
-  pub IsNearestSaddle-none_below : (last : List Rank) (p s : Rank) → IsPoint m p → IsNearestSaddle m side last p s → (t o : Rank) → Contains last o → o ≢ p → below_by side t s ≡ true → JoinedBy m side t p o → ⊥
+  pub IsNearestSaddle-none_below : (last : List Rank) (p s : Rank) → IsPoint m p → IsNearestSaddle m side last p s → (t o : Rank) → Contains last o → o ≢ p
+      → below_by side t s ≡ true → JoinedBy m side t p o → ⊥
   IsNearestSaddle-none_below last p s point nearest t o at ne low j =
       let u = JoinedBy-saddle m side t p o point ne j in
       let high : IsNotAbove (below_by side) s t = not_above-trans (below_by side) (below_by-order side) s u.0 t (nearest.least o u.0 at ne u.1) u.2 in
       false≢true (sym high ∙ low)
 
   -- no point is reached from two pits of the set, each below its nearest saddle
-  pub IsReachedBelow-apart : (last : List Rank) (p q s u x : Rank) → IsPoint m p → IsPoint m q → Contains last p → Contains last q → p ≢ q → IsNearestSaddle m side last p s → IsNearestSaddle m side last q u
+  pub IsReachedBelow-apart : (last : List Rank) (p q s u x : Rank) → IsPoint m p → IsPoint m q → Contains last p → Contains last q → p ≢ q → IsNearestSaddle m side last p s
+      → IsNearestSaddle m side last q u
       → IsReachedBelow m side (Some s) p x → IsReachedBelow m side (Some u) q x → ⊥
   IsReachedBelow-apart last p q s u x point other at_p at_q ne nearest nearest' r r' =
       let a = IsReachedBelow-joined s p x r in
@@ -160,7 +162,8 @@ module _ (m : Map) (side : SideName) (kept : List Kept) (w : AreNearest m side k
   -- there are few of them
   pub kept-few : IsMap m → length kept ≤ 4194304
   kept-few whole =
-      let most = length-le_from_apart (λ (r : Rank). r.index) (cell_count m.size) pits (λ i j d less inside e. (let lt = w.in_order i j d less inside in omega (arith, lt, e))) (λ p at. point_inside m p (w.pits p at).point) in
+      let most = length-le_from_apart (λ (r : Rank). r.index) (cell_count m.size) pits (λ i j d less inside e. (let lt = w.in_order i j d less inside in omega (arith, lt, e)))
+      (λ p at. point_inside m p (w.pits p at).point) in
       let long = length-map kept (λ (k : Kept). k.pit) in
       let cells = whole.size.cells in
       omega (arith, most, long, cells)

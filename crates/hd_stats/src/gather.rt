@@ -18,7 +18,8 @@ pub(crate) trait Gather {
     /// That of fewer than 4,194,304 heights with one more, or none.
     fn with(&self, sum: Self::Sum, height: Option<i64>) -> Self::Sum
         requires { (heights : List ℤ) × is_of self.now heights sum × (length heights < 4194304) }
-        ensures { (heights : List ℤ) → is_of self.now heights sum → is_of self.now (heights ++ cons_option height []) result };
+        ensures { (heights : List ℤ) → is_of self.now heights sum
+            → is_of self.now (heights ++ cons_option height []) result };
 }
 
 /// What is gathered of the heights of the present points of a grid, from that of no heights on.
@@ -38,8 +39,10 @@ pub(crate) fn gathered<T: Gather, G: Heights>(grid: &G, by: &T, none: T::Sum) ->
 #[inline]
 fn with_profile<T: Gather, G: Heights>(grid: &G, by: &T, before: T::Sum, y: u32) -> T::Sum
     requires profile { y < (G.map grid.now).size.profiles }
-    requires before { T.is_of by.now (heights_below (G.map grid.now) (y * (G.map grid.now).size.points)) before }
-    ensures { T.is_of by.now (heights_below (G.map grid.now) ((y + 1) * (G.map grid.now).size.points)) result }
+    requires before { T.is_of by.now (heights_below (G.map grid.now)
+        (y * (G.map grid.now).size.points)) before }
+    ensures { T.is_of by.now (heights_below (G.map grid.now)
+        ((y + 1) * (G.map grid.now).size.points)) result }
 {
     let mut sum = before;
     'points: for x in 0..grid.size().points {

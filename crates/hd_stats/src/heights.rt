@@ -59,7 +59,8 @@ fn mean_deviation<G: Heights>(grid: &G, sums: &Sums) -> Frac
     requires some { 0 < sums.now.count }
     requires are { AreSums (present_heights (G.map grid.now)) sums.now }
     requires small { AreSmall sums.now 4194304 }
-    ensures { IsFraction (pos (deviations (present_heights (G.map grid.now)))) (sums.now.count * sums.now.count) result.num result.den }
+    ensures { IsFraction (pos (deviations (present_heights (G.map grid.now))))
+        (sums.now.count * sums.now.count) result.num result.den }
 {
     let count = u128::from(sums.count);
     Frac::new(deviations(grid, sums) as i128, count * count)
@@ -68,7 +69,8 @@ fn mean_deviation<G: Heights>(grid: &G, sums: &Sums) -> Frac
 // The part of the present points that are at least as high as c.
 fn part_at_least<G: Heights>(grid: &G, sums: &Sums, c: i64) -> Frac
     requires { 0 < sums.now.count }
-    ensures { IsFraction (pos (at_least c (present_heights (G.map grid.now)))) sums.now.count result.num result.den }
+    ensures { IsFraction (pos (at_least c (present_heights (G.map grid.now)))) sums.now.count
+        result.num result.den }
 {
     Frac::new(i128::from(at_least(grid, c)), u128::from(sums.count))
 }

@@ -27,14 +27,17 @@ pub fn counts_add_up()
 
 /// The points that are summed for two different kept pits of a pruning are different.
 pub fn filled_points_are_apart()
-    ensures { (m : Map) (side : SideName) (thousandths : ℕ) (steps : List Leaving) (last : List Rank) (owner : Rank → Rank) → IsPruning m side thousandths steps last owner
+    ensures { (m : Map) (side : SideName) (thousandths : ℕ) (steps : List Leaving)
+        (last : List Rank) (owner : Rank → Rank) → IsPruning m side thousandths steps last owner
         → (p q s u : Rank) (xs ys : List Rank) → Contains last p → Contains last q → p ≢ q → IsNearestSaddle m side last p s → IsNearestSaddle m side last q u
         → AreFilled m side p s xs → AreFilled m side q u ys → (x y : Rank) → Contains xs x → Contains ys y → x ≢ y }
 {}
 
 /// The points that are summed for a kept pit of a pruning are all owned by it.
 pub fn filled_points_are_owned()
-    ensures { (m : Map) (side : SideName) (thousandths : ℕ) (steps : List Leaving) (last : List Rank) (owner : Rank → Rank) → IsMap m → IsPruning m side thousandths steps last owner
+    ensures { (m : Map) (side : SideName) (thousandths : ℕ) (steps : List Leaving)
+        (last : List Rank) (owner : Rank → Rank) → IsMap m
+        → IsPruning m side thousandths steps last owner
         → (p s : Rank) (xs : List Rank) → Contains last p → IsNearestSaddle m side last p s → AreFilled m side p s xs
         → (x : Rank) → Contains xs x → IsOwnedBy m side owner x p }
 {}
@@ -42,10 +45,14 @@ pub fn filled_points_are_owned()
 /// A map has one value of each height parameter, a notation one list of counts and one share over some
 /// regions, and the kept pits of a map have one list of fills.
 pub fn further_values_are_determined()
-    ensures heights { (m : Map) (name : HeightName) (a b : Option Frac) → IsHeightValue m name a → IsHeightValue m name b → AreSameValues a b }
-    ensures shares { (n : Notation) (regions : List Region) (above : ℤ) (a b : Option Frac) → IsPerc n regions above a → IsPerc n regions above b → AreSameValues a b }
-    ensures counts { (n : Notation) (regions : List Region) (bins : ℕ) (a b : Option (List ℕ)) → IsHist n regions bins a → IsHist n regions bins b → a ≡ b }
-    ensures fills { (m : Map) (side : SideName) (kept : List Kept) (a b : List (Option Frac)) → AreFills m side kept a → AreFills m side kept b → AreSameFills a b }
+    ensures heights { (m : Map) (name : HeightName) (a b : Option Frac) → IsHeightValue m name a
+        → IsHeightValue m name b → AreSameValues a b }
+    ensures shares { (n : Notation) (regions : List Region) (above : ℤ) (a b : Option Frac)
+        → IsPerc n regions above a → IsPerc n regions above b → AreSameValues a b }
+    ensures counts { (n : Notation) (regions : List Region) (bins : ℕ) (a b : Option (List ℕ))
+        → IsHist n regions bins a → IsHist n regions bins b → a ≡ b }
+    ensures fills { (m : Map) (side : SideName) (kept : List Kept) (a b : List (Option Frac))
+        → AreFills m side kept a → AreFills m side kept b → AreSameFills a b }
 {
     reduced_fraction_is_determined();
 }
@@ -53,8 +60,10 @@ pub fn further_values_are_determined()
 /// Where the pits and the local heights of the regions serve a notation, its counts and its share over
 /// these alone are those over the regions.
 pub fn heights_alone_serve_distributions()
-    ensures counts { (n : Notation) (regions : List Region) (bins : ℕ) (a : Option (List ℕ)) → heights_serve n ≡ true
+    ensures counts { (n : Notation) (regions : List Region) (bins : ℕ) (a : Option (List ℕ))
+        → heights_serve n ≡ true
         → IsHist n (map height_alone regions) bins a → IsHist n regions bins a }
-    ensures shares { (n : Notation) (regions : List Region) (above : ℤ) (a : Option Frac) → heights_serve n ≡ true
+    ensures shares { (n : Notation) (regions : List Region) (above : ℤ) (a : Option Frac)
+        → heights_serve n ≡ true
         → IsPerc n (map height_alone regions) above a → IsPerc n regions above a }
 {}

@@ -42,7 +42,8 @@ fn reached_below<S: Side, G: Heights>(
     kept: &[Kept],
 ) -> Result<Vec<Option<u32>>, Memory>
     requires { (thousandths : ℕ) × AreKeptAlone (G.map grid.now) S.NAME thousandths kept.now }
-    ensures { IfOk result (λ reached. AreReached (G.map grid.now) S.NAME kept.now (length kept.now) reached.items) }
+    ensures { IfOk result (λ reached. AreReached (G.map grid.now) S.NAME kept.now
+        (length kept.now) reached.items) }
 {
     let size = grid.size();
     let mut reached = vec![in alloc; None; (size.profiles * size.points) as usize]?;
@@ -89,7 +90,8 @@ fn add_up<G: Heights>(
 ) -> Result<Vec<u128>, Memory>
     requires whole { length reached.now ≡ cell_count (G.map grid.now).size }
     requires numbers { (k : ℕ) → ForSome (slice_index_or reached.now k None) (λ n. n < length kept.now) }
-    ensures { IfOk result (λ volumes. AreVolumes (G.map grid.now) kept.now reached.now (length reached.now) volumes.items) }
+    ensures { IfOk result (λ volumes. AreVolumes (G.map grid.now) kept.now reached.now
+        (length reached.now) volumes.items) }
 {
     let mut volumes = vec![in alloc; 0u128; kept.len()]?;
     'profiles: for y in 0..grid.size().profiles {
@@ -110,8 +112,10 @@ fn add_profile<G: Heights>(
     requires profile { y < (G.map grid.now).size.profiles }
     requires whole { length reached.now ≡ cell_count (G.map grid.now).size }
     requires numbers { (k : ℕ) → ForSome (slice_index_or reached.now k None) (λ n. n < length kept.now) }
-    requires before { AreVolumes (G.map grid.now) kept.now reached.now (y * (G.map grid.now).size.points) volumes.old.items }
-    ensures { AreVolumes (G.map grid.now) kept.now reached.now ((y + 1) * (G.map grid.now).size.points) volumes.new.items }
+    requires before { AreVolumes (G.map grid.now) kept.now reached.now
+        (y * (G.map grid.now).size.points) volumes.old.items }
+    ensures { AreVolumes (G.map grid.now) kept.now reached.now
+        ((y + 1) * (G.map grid.now).size.points) volumes.new.items }
 {
     let size = grid.size();
     'points: for x in 0..size.points {

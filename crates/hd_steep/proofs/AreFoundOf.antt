@@ -47,7 +47,8 @@ module _ (m : Map) (side : SideName) (places : List ℕ) where
     λ before. elim (cases_lt p.from.index index) [ inl earlier ↦ earlier | inr past ↦ absurd (none j p less across (omega arith)) ],
   ))
 
-  module _ (Seen Seen' : Pair → Type 0) (from to : Pos) (near : Neighbour m from to) (a b : ℕ) (at_a : slice_get places (place_of m.size from) ≡ Some a) (at_b : slice_get places (place_of m.size to) ≡ Some b)
+  module _ (Seen Seen' : Pair → Type 0) (from to : Pos) (near : Neighbour m from to) (a b : ℕ) (at_a : slice_get places (place_of m.size from) ≡ Some a)
+      (at_b : slice_get places (place_of m.size to) ≡ Some b)
       (less : a < b) (fresh : Seen (pair_of m from to) → ⊥) (more : (p : Pair) → Near m p.from p.to → Seen' p ↔ (Seen p ⊎ (p ≡ pair_of m from to))) where
     abbrev higher : Rank
     higher = higher_by side (rank m from) (rank m to)
@@ -96,7 +97,8 @@ module _ (m : Map) (side : SideName) (places : List ℕ) where
       grown-counted : AreCounted side (IsSeen m places Seen' a grown.b) grown.pairs grown.pass
       grown-counted =
           let border : Border = adds.border in
-          let of_b : AreCounted side (IsSeen m places Seen a b) border.pairs border.pass = subst (λ j. AreCounted side (IsSeen m places Seen a j) border.pairs border.pass) adds.of (are.counted border (at_place old adds.at border adds.there)) in
+          let of_b : AreCounted side (IsSeen m places Seen a b) border.pairs border.pass = subst (λ j. AreCounted side (IsSeen m places Seen a j) border.pairs border.pass) adds.of
+          (are.counted border (at_place old adds.at border adds.there)) in
           subst (λ j. AreCounted side (IsSeen m places Seen' a j) grown.pairs grown.pass) (sym adds.of)
           (counted-more side (IsSeen m places Seen a b) (IsSeen m places Seen' a b) (pair_of m from to) (λ s. fresh s.seen) seen-more border.pairs border.pass of_b)
 

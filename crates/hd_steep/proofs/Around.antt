@@ -89,7 +89,8 @@ module _ (m : Map) (side : SideName) where
       | inr one ↦ one
     ]
 
-    module _ (above level below : List Rank) (x y : ℕ) (inside : x < m.size.points) (upper : IsRowOf m side y above) (middle : IsRowOf m side (y + 1) level) (lower : IsRowOf m side (y + 2) below) where
+    module _ (above level below : List Rank) (x y : ℕ) (inside : x < m.size.points) (upper : IsRowOf m side y above) (middle : IsRowOf m side (y + 1) level)
+        (lower : IsRowOf m side (y + 2) below) where
       abbrev ring : List Rank
       ring = ring_of above level below x
 
@@ -179,7 +180,8 @@ module _ (m : Map) (side : SideName) where
               near = record {
                 from = at;
                 to = one.at;
-                neighbour = neighbours_at y x 8 k at one.at (close_from_test 8 k (close_middle k b)) at_middle one.chosen here one.present (taken_beside at one.at m.adjacency marks k is_taken (stands_at k one.at one.chosen));
+                neighbour = neighbours_at y x 8 k at one.at (close_from_test 8 k (close_middle k b)) at_middle one.chosen here one.present
+                    (taken_beside at one.at m.adjacency marks k is_taken (stands_at k one.at one.chosen));
                 from_rank = own_is;
                 to_rank = one.low_is;
               };
@@ -271,8 +273,10 @@ module _ (m : Map) (side : SideName) where
         -- under 8 from each marked place to the first of its group
         to_first_of_eight : m.adjacency ≡ Eight → (k : ℕ) → is_marked marks k ≡ true → (j : ℕ) × (is_marked (firsts_of marks) j ≡ true) × Way k j
         to_first_of_eight eight k h =
-            let found = leads_first Way (λ i. ([], refl)) way_on (is_marked marks 0) (is_marked marks 1) (is_marked marks 2) (is_marked marks 3) (is_marked marks 4) (is_marked marks 5) (is_marked marks 6) (is_marked marks 7)
-            (λ i j close one other. (let b = marked_beside eight i j close (taken_eight m.adjacency marks i eight one) (taken_eight m.adjacency marks j eight other) in (rank_in ring j ∷ [], (b, refl)))) k h in
+            let found = leads_first Way (λ i. ([], refl)) way_on (is_marked marks 0) (is_marked marks 1) (is_marked marks 2) (is_marked marks 3) (is_marked marks 4)
+            (is_marked marks 5) (is_marked marks 6) (is_marked marks 7)
+            (λ i j close one other. (let b = marked_beside eight i j close (taken_eight m.adjacency marks i eight one) (taken_eight m.adjacency marks j eight other) in
+            (rank_in ring j ∷ [], (b, refl)))) k h in
             (found.last, found.is_first, found.along)
 
         -- from each place that is taken to one at which passes are gathered

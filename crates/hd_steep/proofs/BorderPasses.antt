@@ -39,11 +39,13 @@ in_order-apart p q first a b =
 
 module _ (m : Map) (side : SideName) where
   -- the lesser and the greater index of a pass
-  between-ends : (a b w : Rank) → a.index < b.index → (min (pass_between side a b w).a.index (pass_between side a b w).b.index ≡ a.index) × (max (pass_between side a b w).a.index (pass_between side a b w).b.index ≡ b.index)
-  between-ends a b w less = elim (below_by side a b) as (λ v. let p : Pass = cond v (record { a = a; b = b; at = w }) (record { a = b; b = a; at = w }) in (min p.a.index p.b.index ≡ a.index) × (max p.a.index p.b.index ≡ b.index)) [
-    | true ↦ (omega arith, omega arith)
-    | false ↦ (omega arith, omega arith)
-  ]
+  between-ends : (a b w : Rank) → a.index < b.index → (min (pass_between side a b w).a.index (pass_between side a b w).b.index ≡ a.index)
+      × (max (pass_between side a b w).a.index (pass_between side a b w).b.index ≡ b.index)
+  between-ends a b w less = elim (below_by side a b) as (λ v. let p : Pass = cond v (record { a = a; b = b; at = w }) (record { a = b; b = a; at = w }) in
+      (min p.a.index p.b.index ≡ a.index) × (max p.a.index p.b.index ≡ b.index)) [
+        | true ↦ (omega arith, omega arith)
+        | false ↦ (omega arith, omega arith)
+      ]
 
   module _ (whole : IsMap m) (labels : List (Option ℕ)) (regions : AreRegions m side labels) where
     abbrev In : Rank → Rank → Type 0
@@ -140,7 +142,8 @@ module _ (m : Map) (side : SideName) where
           (λ v meet.
           let p : Pair = record { from = meet.from; to = meet.to } in
           let pair : IsAcross m In j.a j.b p = record { near = meet.near; from_in = meet.from_in; to_in = meet.to_in } in
-          let one : IsAcross m (HasPlace m places) l.a l.b p = subst (λ i. IsAcross m (HasPlace m places) i l.b p) j.a_index (subst (λ i. IsAcross m (HasPlace m places) j.a.index i p) j.b_index (across j.a j.b p pair)) in
+          let one : IsAcross m (HasPlace m places) l.a l.b p = subst (λ i. IsAcross m (HasPlace m places) i l.b p) j.a_index
+          (subst (λ i. IsAcross m (HasPlace m places) j.a.index i p) j.b_index (across j.a j.b p pair)) in
           subst (λ w. IsNotAbove (below_by side) l.pass w) (sym meet.higher) ((are.counted l at).least p one)))
 
       -- two regions that meet have a pass, whichever index is the lesser
@@ -182,7 +185,8 @@ module _ (m : Map) (side : SideName) where
         ]
       ]
 
-      ends : (l : Border) → Contains borders l → (min (pass_of_border m side l).a.index (pass_of_border m side l).b.index ≡ l.a) × (max (pass_of_border m side l).a.index (pass_of_border m side l).b.index ≡ l.b)
+      ends : (l : Border) → Contains borders l → (min (pass_of_border m side l).a.index (pass_of_border m side l).b.index ≡ l.a)
+          × (max (pass_of_border m side l).a.index (pass_of_border m side l).b.index ≡ l.b)
       ends l at =
           let j = joins l at in
           let less = are.lesser l at in
@@ -197,7 +201,8 @@ module _ (m : Map) (side : SideName) where
           let y : Border = get_or borders j none in
           let one = ends x (Contains-get_or borders i none (omega arith)) in
           let other = ends y (Contains-get_or borders j none within) in
-          rw (get_or-map (pass_of_border m side) borders i none d (omega arith), get_or-map (pass_of_border m side) borders j none d within, one.0, one.1, other.0, other.1) (are.in_order i j none less within)
+          rw (get_or-map (pass_of_border m side) borders i none d (omega arith), get_or-map (pass_of_border m side) borders j none d within, one.0, one.1, other.0, other.1)
+          (are.in_order i j none less within)
 
       pub passes-all : ArePassesUnder m side labels passes
       passes-all = record {

@@ -82,7 +82,8 @@ module _ (m : Map) (side : SideName) (places : List ℕ) where
     ];
     in_order = AllPairs-append (λ (x : Border) (y : Border). (x.a < y.a) ⊎ ((x.a ≡ y.a) × (x.b < y.b))) old sorted are.in_order
         (λ i j d less inside. inr (
-          found.own (get_or sorted i d) (back (get_or sorted i d) (Contains-get_or sorted i d (omega arith))) ∙ sym (found.own (get_or sorted j d) (back (get_or sorted j d) (Contains-get_or sorted j d inside))),
+          found.own (get_or sorted i d) (back (get_or sorted i d) (Contains-get_or sorted i d (omega arith)))
+              ∙ sym (found.own (get_or sorted j d) (back (get_or sorted j d) (Contains-get_or sorted j d inside))),
           rise raw sorted apart moved rising i j d less inside,
         ))
         (λ x y one other. (let less = are.before x one in let e = found.own y (back y other) in inl (omega arith)));

@@ -41,7 +41,8 @@ module _ (places : List ℕ) where
       ];
     }
 
-    pub nexts-more : (room : ℕ) (firsts nexts : List ℕ) (k : ℕ) → slice_get firsts own ≡ Some k → AreFirstsFrom places room (n + 1) firsts → AreNextsFrom places (n + 1) nexts → AreNextsFrom places n (set nexts n k)
+    pub nexts-more : (room : ℕ) (firsts nexts : List ℕ) (k : ℕ) → slice_get firsts own ≡ Some k → AreFirstsFrom places room (n + 1) firsts → AreNextsFrom places (n + 1) nexts
+        → AreNextsFrom places n (set nexts n k)
     nexts-more room firsts nexts k at_k firsts_are are = record {
       long = length-set nexts n k ∙ are.long;
       each = λ i place q from at_i at_q. elim (cases_eq i n) [
@@ -64,7 +65,8 @@ module _ (m : Map) (side : SideName) (places : List ℕ) (a : ℕ) where
   }
 
   -- between an index and the next one neither
-  pub found-next : (n k : ℕ) → IsFirstFrom places a n k → (borders : List Border) → AreFoundOf m side places (λ p. p.from.index < n) a borders → AreFoundOf m side places (λ p. p.from.index < k) a borders
+  pub found-next : (n k : ℕ) → IsFirstFrom places a n k → (borders : List Border) → AreFoundOf m side places (λ p. p.from.index < n) a borders
+      → AreFoundOf m side places (λ p. p.from.index < k) a borders
   found-next n k first borders = found-as m side places (λ p. p.from.index < n) (λ p. p.from.index < k) a (λ j p less across. (
     λ before. (let from = first.from in omega arith),
     λ before. elim (cases_lt p.from.index n) [ inl earlier ↦ earlier | inr past ↦ absurd (first.none p.from.index past before across.from_in.place) ],

@@ -75,7 +75,8 @@ module _ (side : SideName) where
   ] refl
 
   -- with one more pair
-  pub counted-more : (Of Of' : Pair → Type 0) (p : Pair) → (Of p → ⊥) → ((q : Pair) → Of' q ↔ (Of q ⊎ (q ≡ p))) → (n : ℕ) (w : Rank) → AreCounted side Of n w → AreCounted side Of' (n + 1) (lower (higher_of side p) w)
+  pub counted-more : (Of Of' : Pair → Type 0) (p : Pair) → (Of p → ⊥) → ((q : Pair) → Of' q ↔ (Of q ⊎ (q ≡ p))) → (n : ℕ) (w : Rank) → AreCounted side Of n w
+      → AreCounted side Of' (n + 1) (lower (higher_of side p) w)
   counted-more Of Of' p fresh more n w h = record {
     list = h.list ++ p ∷ [];
     exactly = λ q. (

@@ -157,7 +157,8 @@ module _ (m : Map) (side : SideName) where
       meets = λ p h. meets_at p (crossing_of p h);
       enough = λ a b w meeting.
           subst (λ (r : Rank). AreJoinedWithin (below_by side) passes r a b) (sym meeting.higher)
-          (meeting_joined m side passes whole labels regions served_at meeting.from meeting.to a b meeting.near (labelled-root m side labels regions meeting.from a meeting.from_in) (labelled-root m side labels regions meeting.to b meeting.to_in));
+          (meeting_joined m side passes whole labels regions served_at meeting.from meeting.to a b meeting.near (labelled-root m side labels regions meeting.from a meeting.from_in)
+          (labelled-root m side labels regions meeting.to b meeting.to_in));
     }
 
 module _ (m : Map) (side : SideName) where

@@ -76,7 +76,8 @@ module _ (m : Map) (side : SideName) where
   }
 
   -- by nothing, where all is reached
-  pub descends_none : (C : Pos → Type 0) (xs : List Descent) → ((u : Pos) → C u → Present m u → (z : Rank) → LowerNeighbour m side (rank m u) z → IsReached m side xs (rank m u) z) → Descends m side C xs xs
+  pub descends_none : (C : Pos → Type 0) (xs : List Descent) → ((u : Pos) → C u → Present m u → (z : Rank) → LowerNeighbour m side (rank m u) z → IsReached m side xs (rank m u) z)
+      → Descends m side C xs xs
   descends_none C xs all = record { from = λ d held. inl held; kept = λ d held. held; all = all }
 
   -- a descent from some points is one from more
@@ -149,12 +150,14 @@ module _ (m : Map) (side : SideName) (whole : IsMap m) {L : Type 0} (code : Enco
 
     -- the first ones are the first lower ones
     first_is : first ≡ marks_of m.adjacency (are_lower side middle around)
-    first_is = ap (marks_of m.adjacency) (lower_is ∙ ap (λ (r : Rank). are_lower_heights side r around) middle_is ∙ heights_tell m side whole at here above level below round.above.ranks round.level.ranks round.below.ranks
+    first_is = ap (marks_of m.adjacency) (lower_is ∙ ap (λ (r : Rank). are_lower_heights side r around) middle_is
+        ∙ heights_tell m side whole at here above level below round.above.ranks round.level.ranks round.below.ranks
         ∙ ap (λ (r : Rank). are_lower side r around) (sym middle_is))
 
     -- they are lower neighbours
     lower_at : (k : ℕ) → is_marked first k ≡ true → LowerNeighbour m side middle (rank_in around k)
-    lower_at k marked = first_lower m side whole above level below at.x at.y column round.above.ranks round.level.ranks round.below.ranks at here refl refl k (subst (λ (f : List Bool). is_marked f k ≡ true) first_is marked)
+    lower_at k marked = first_lower m side whole above level below at.x at.y column round.above.ranks round.level.ranks round.below.ranks at here refl refl k
+        (subst (λ (f : List Bool). is_marked f k ≡ true) first_is marked)
 
     -- what holds of all lower neighbours in the middle holds at a point at the position
     at_point : (P : Rank → Rank → Type 0) → ((z : Rank) → LowerNeighbour m side middle z → P middle z)
@@ -166,7 +169,8 @@ module _ (m : Map) (side : SideName) (whole : IsMap m) {L : Type 0} (code : Enco
     -- where one of them is marked at most, all lower neighbours are reached
     pub reached_at : (list : List Descent) → IsOneAtMost first → (u : Pos) → u ≡ at → Present m u → (z : Rank) → LowerNeighbour m side (rank m u) z → IsReached m side list (rank m u) z
     reached_at list alone = at_point (IsReached m side list)
-        (reached_alone m side whole above level below at.x at.y column round.above.ranks round.level.ranks round.below.ranks at here refl refl list (subst (λ (f : List Bool). IsOneAtMost f) first_is alone))
+        (reached_alone m side whole above level below at.x at.y column round.above.ranks round.level.ranks round.below.ranks at here refl refl list
+        (subst (λ (f : List Bool). IsOneAtMost f) first_is alone))
 
     module _ (old : List Descent) where
       abbrev new : List Descent

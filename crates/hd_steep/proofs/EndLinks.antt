@@ -176,7 +176,8 @@ module _ (m : Map) (side : SideName) where
       end_none k none = record { number = length pits; link_is = refl; label = rw (root_past pits (length pits) (omega arith)) none }
 
       -- first links with the numbers of the pits, led to the last end where there is none, lead on
-      ends_lead : (old written new : List ℕ) → AreLinks m side old → AreWrittenAtPits m side pits (cell_count m.size) old written → AreToLast (cell_count m.size + length pits) written new → (k : ℕ) → k < length old
+      ends_lead : (old written new : List ℕ) → AreLinks m side old → AreWrittenAtPits m side pits (cell_count m.size) old written
+          → AreToLast (cell_count m.size + length pits) written new → (k : ℕ) → k < length old
           → LeadsOn k (slice_index new k) × (slice_index new k ≤ cell_count m.size + length pits)
       ends_lead old written new links at_pits to_last k inside =
           let last : ℕ = cell_count m.size + length pits in
@@ -208,7 +209,8 @@ module _ (m : Map) (side : SideName) where
           ]
 
       -- with the links of the ends they are the links of all
-      pub ends_added : (old written to_last new : List ℕ) → AreLinks m side old → AreWrittenAtPits m side pits (cell_count m.size) old written → AreToLast (cell_count m.size + length pits) written to_last
+      pub ends_added : (old written to_last new : List ℕ) → AreLinks m side old → AreWrittenAtPits m side pits (cell_count m.size) old written
+          → AreToLast (cell_count m.size + length pits) written to_last
           → HasEnds (cell_count m.size + length pits) to_last new → AreEndLinks m side pits new
       ends_added old written to_last new links at_pits to has =
           let long = links.whole in

@@ -60,7 +60,8 @@ module _ (m : Map) (side : SideName) (whole : IsMap m) (at : Pos) (here : Presen
 
   -- the place to the right
   from_right : later_below side (rank_in level (at.x + 2)) (rank m at) ≡ below_by side (rank_in level (at.x + 2)) (rank m at)
-  from_right = rank_after m side whole at here (at.y + 1) (at.x + 2) (rank_in level (at.x + 2)) (row_place m side (at.y + 1) level (at.x + 2) middle (let column = here.in_grid.column in omega (arith, column)))
+  from_right = rank_after m side whole at here (at.y + 1) (at.x + 2) (rank_in level (at.x + 2))
+      (row_place m side (at.y + 1) level (at.x + 2) middle (let column = here.in_grid.column in omega (arith, column)))
       (λ q there present. place_before m.size at q (let p = there.profile in omega (arith, p)) (let p = there.place in omega (arith, p)))
 
   -- a place of the row below

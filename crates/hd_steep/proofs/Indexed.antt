@@ -20,7 +20,8 @@ module _ (slots : List ℕ) (borders : List Border) (indexed : AreIndexed slots 
   indexed-few = length-le_from_apart (λ (l : Border). l.b) (length slots) borders indexed-apart (λ l at. (let k = place_of borders l at in slice_get_within slots l.b k.0 (indexed k.0 l k.1)))
 
   -- where the border at the slot of a place is of another one, or there is none, no border is of that place
-  pub slot-none : (b slot : ℕ) (d : Border) → slice_get slots b ≡ Some slot → (slot < length borders → (get_or borders slot d).b ≢ b) → (k : ℕ) (l : Border) → slice_get borders k ≡ Some l → l.b ≡ b → ⊥
+  pub slot-none : (b slot : ℕ) (d : Border) → slice_get slots b ≡ Some slot → (slot < length borders → (get_or borders slot d).b ≢ b) → (k : ℕ) (l : Border)
+      → slice_get borders k ≡ Some l → l.b ≡ b → ⊥
   slot-none b slot d there other k l at e =
       let same : slot ≡ k = same_Some slot k (sym there ∙ ap (slice_get slots) (sym e) ∙ indexed k l at) in
       let inside : k < length borders = slice_get_within borders k l at in
@@ -28,9 +29,11 @@ module _ (slots : List ℕ) (borders : List Border) (indexed : AreIndexed slots 
       other (omega arith) (ap (λ (z : Border). z.b) is ∙ e)
 
   -- a border of a new greater place is added
-  pub indexed-push : (b : ℕ) (x : Border) → b < length slots → x.b ≡ b → ((k : ℕ) (l : Border) → slice_get borders k ≡ Some l → l.b ≡ b → ⊥) → AreIndexed (set slots b (length borders)) (borders ++ x ∷ [])
+  pub indexed-push : (b : ℕ) (x : Border) → b < length slots → x.b ≡ b → ((k : ℕ) (l : Border) → slice_get borders k ≡ Some l → l.b ≡ b → ⊥)
+      → AreIndexed (set slots b (length borders)) (borders ++ x ∷ [])
   indexed-push b x inside is none k l at = elim (get-push_cases borders x l k at) [
     | inl old ↦ get-set_other slots b l.b (length borders) (λ e. none k l old (sym e)) ∙ indexed k l old
     | inr new ↦ (let slot = item_at slots b inside in
-        ap (λ (z : Border). slice_get (set slots b (length borders)) z.b) (sym new.1) ∙ ap (slice_get (set slots b (length borders))) is ∙ get-set_same slots b (length borders) slot.0 slot.1 ∙ ap Some (sym new.0))
+        ap (λ (z : Border). slice_get (set slots b (length borders)) z.b) (sym new.1) ∙ ap (slice_get (set slots b (length borders))) is
+        ∙ get-set_same slots b (length borders) slot.0 slot.1 ∙ ap Some (sym new.0))
   ]

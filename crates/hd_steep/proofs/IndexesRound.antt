@@ -18,7 +18,8 @@ module _ (m : Map) (side : SideName) (whole : IsMap m) {L : Type 0} (code : Enco
   around = ring_of (ranks_of code side rows.above) (ranks_of code side rows.level) (ranks_of code side rows.below) x
 
   -- an index at a place of a row
-  at_place : (r k i : ℕ) (row : Row L) → IsKeyRow code side m r row → k < m.size.points + 2 → i ≡ row.first + k - 1 → IsPoint m (rank_in (ranks_of code side row) k) → i ≡ (rank_in (ranks_of code side row) k).index
+  at_place : (r k i : ℕ) (row : Row L) → IsKeyRow code side m r row → k < m.size.points + 2 → i ≡ row.first + k - 1 → IsPoint m (rank_in (ranks_of code side row) k)
+      → i ≡ (rank_in (ranks_of code side row) k).index
   at_place r k i row is place e point = e ∙ sym (index_at m side whole code r row is k place point)
 
   pub indexes_at : (k : ℕ) → k < 8 → IsPoint m (rank_in around k) → slice_index (indexes_round rows x) k ≡ (rank_in around k).index

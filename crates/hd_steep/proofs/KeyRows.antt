@@ -96,7 +96,8 @@ module _ {L : Type 0} (code : Encoding L) where
       | inl none ↦ subst (IsPlainNumber code (most_filtered code)) (sym none) (missing_plain code)
       | inr some ↦
           let at : number_in code written i ≡ number_in code row some.0 = ap (number_in code written) some.2 ∙ written_at some.0 some.1 in
-          subst (IsPlainNumber code (most_filtered code)) (sym at) (IsPlainNumber-more code code.most_height (most_filtered code) (number_in code row some.0) (omega arith) (heights.each some.0 some.1).plain)
+          subst (IsPlainNumber code (most_filtered code)) (sym at) (IsPlainNumber-more code code.most_height (most_filtered code) (number_in code row some.0) (omega arith)
+          (heights.each some.0 some.1).plain)
     ]
 
     -- and become keys
@@ -120,7 +121,8 @@ module _ {L : Type 0} (code : Encoding L) where
         → IsRowOf m side y (ranks_in code side first keys)
     keys_framed y first keys framed each =
         let w = framed.whole in
-        let at : (k : ℕ) → k < m.size.points + 2 → rank_in (ranks_in code side first keys) k ≡ rank_of code side (first + k - 1) (number_in code keys k) = λ k below. rank_at_key code side first keys k (omega (arith, below, w)) in
+        let at : (k : ℕ) → k < m.size.points + 2 → rank_in (ranks_in code side first keys) k
+        ≡ rank_of code side (first + k - 1) (number_in code keys k) = λ k below. rank_at_key code side first keys k (omega (arith, below, w)) in
         let none : (k : ℕ) → k < m.size.points + 2 → number_in code keys k ≡ code.missing → rank_in (ranks_in code side first keys) k ≡ missing side = λ k below e.
         (at k below ∙ rank_of_missing code side (first + k - 1) (number_in code keys k) (ap code.shown e ∙ code.missing_none)) in
         record {

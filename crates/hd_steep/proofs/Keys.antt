@@ -1,5 +1,6 @@
 -- Keys, and the ranks for which they stand.
-use Rattle.std.proofs.Common.{◌≡◌, ◌<◌, ◌≤◌, ◌+◌, ◌-◌, ◌⊎◌, ℕ, ℤ, zero, suc, neg_ℤ, Bool, List, [], ◌∷◌, length, length-set, get_or-set_other, get_or-set_same, slice_set, inl, inr, Option, Some, None, refl, ap, sym, subst, ◌∙◌, arith}
+use Rattle.std.proofs.Common.{◌≡◌, ◌<◌, ◌≤◌, ◌+◌, ◌-◌, ◌⊎◌, ℕ, ℤ, zero, suc, neg_ℤ, Bool, List, [], ◌∷◌, length, length-set, get_or-set_other}
+use Rattle.std.proofs.Common.{get_or-set_same, slice_set, inl, inr, Option, Some, None, refl, ap, sym, subst, ◌∙◌, arith}
 use Rattle.std.specs.Prelude.{not, slice_index_or}
 use Rattle.std.proofs.lemmas.Int.{ints}
 use Rattle.std.proofs.lemmas.Bool.{cases_eq, cases_lt}
@@ -41,7 +42,8 @@ later-value Hills i j (Some x) None of of' = let low = of.least x refl in grind 
 later-value Hills i j (Some x) (Some y) of of' = grind (arith, ints, nat_tests)
 
 -- and of the earlier one
-pub earlier-value : (side : SideName) (i j : ℕ) (a b : Option ℤ) → IsBounded most_of_map a → IsBounded most_of_map b → earlier_value side a b ≡ earlier_below side (rank_for side i a) (rank_for side j b)
+pub earlier-value : (side : SideName) (i j : ℕ) (a b : Option ℤ) → IsBounded most_of_map a → IsBounded most_of_map b
+    → earlier_value side a b ≡ earlier_below side (rank_for side i a) (rank_for side j b)
 earlier-value Dales i j None None of of' = grind (arith, ints, nat_tests)
 earlier-value Dales i j None (Some y) of of' = let low = of'.least y refl in grind (arith, ints, nat_tests)
 earlier-value Dales i j (Some x) None of of' = let low = of.least x refl in grind (arith, ints, nat_tests)

@@ -38,12 +38,14 @@ module _ (m : Map) (side : SideName) where
         (found.0, found.1, slice_get-get_or labels (place_of m.size p) None there ∙ ap Some found.2);
     absent = λ p in_grid not.
         let there : place_of m.size p < length labels = rw long (place_inside m.size p in_grid) in
-        slice_get-get_or labels (place_of m.size p) None there ∙ ap Some (label_absent (get_or labels (place_of m.size p) None) (place_of m.size p) (no_point_at m p (place_of m.size p) in_grid not refl) (are (place_of m.size p) there));
+        slice_get-get_or labels (place_of m.size p) None there ∙ ap Some (label_absent (get_or labels (place_of m.size p) None) (place_of m.size p)
+        (no_point_at m p (place_of m.size p) in_grid not refl) (are (place_of m.size p) there));
   }
 
   -- a point is labelled with the pit of its region
   pub label_of_point : (labels : List (Option ℕ)) (x : Rank) → AreRegions m side labels → IsPoint m x → (r : Rank) × IsRoot m side x r × (get_or labels x.index None ≡ Some r.index)
   label_of_point labels x are point =
       let found = are.present point.at point.present in
-      let is : get_or labels (place_of m.size point.at) None ≡ Some found.0.index = sym (unwrap_or-slice_get labels (place_of m.size point.at) None) ∙ ap (λ (o : Option (Option ℕ)). unwrap_or o None) found.2 in
+      let is : get_or labels (place_of m.size point.at) None ≡ Some found.0.index = sym (unwrap_or-slice_get labels (place_of m.size point.at) None)
+      ∙ ap (λ (o : Option (Option ℕ)). unwrap_or o None) found.2 in
       (found.0, rw point.rank_is found.1, rw point.rank_is is)

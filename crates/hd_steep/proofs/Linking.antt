@@ -35,7 +35,8 @@ module _ (m : Map) (side : SideName) where
 
   module _ (whole : IsMap m) where
     -- the lowest round a position, from those of three profiles
-    round_low : (x y : ℕ) (above level below : Rank) → IsLow m side (IsRoundIn m.adjacency (record { x = x; y = y }) y) above → IsLow m side (IsRoundIn m.adjacency (record { x = x; y = y }) (y + 1)) level
+    round_low : (x y : ℕ) (above level below : Rank) → IsLow m side (IsRoundIn m.adjacency (record { x = x; y = y }) y) above
+        → IsLow m side (IsRoundIn m.adjacency (record { x = x; y = y }) (y + 1)) level
         → IsLow m side (IsRoundIn m.adjacency (record { x = x; y = y }) (y + 2)) below → IsLow m side (IsRound m.adjacency (record { x = x; y = y })) (lower_of side (lower_of side above level) below)
     round_low x y above level below before here after =
         let at : Pos = record { x = x; y = y } in
@@ -45,7 +46,8 @@ module _ (m : Map) (side : SideName) where
         let upper : (i j : ℕ) (p q : Pos) → i < j → IsRoundIn m.adjacency at i p → IsRoundIn m.adjacency at j q → Present m p → place_of m.size p < place_of m.size q = λ i j p q less s t there.
         place_above m.size p q there.in_grid.column (let e = s.profile in let f = t.profile in omega (arith, e, f, less)) in
         let two : IsLow m side (λ q. A q ⊎ L q) (lower_of side above level) = low_join m side whole A L above level (λ p q s t there. upper y (y + 1) p q (omega arith) s t there) before here in
-        let three : IsLow m side (λ q. (A q ⊎ L q) ⊎ B q) (lower_of side (lower_of side above level) below) = low_join m side whole (λ q. A q ⊎ L q) B (lower_of side above level) below (λ p q s t there. elim s [
+        let three : IsLow m side (λ q. (A q ⊎ L q) ⊎ B q) (lower_of side (lower_of side above level) below) = low_join m side whole (λ q. A q ⊎ L q) B
+        (lower_of side above level) below (λ p q s t there. elim s [
           | inl u ↦ upper y (y + 2) p q (omega arith) u t there
           | inr u ↦ upper (y + 1) (y + 2) p q (omega arith) u t there
         ]) two after in
@@ -99,7 +101,8 @@ module _ (m : Map) (side : SideName) where
           ]
 
       -- the links of a profile, from the rows round it
-      pub links_of_rows : (y : ℕ) (adjacency : Adjacency) (rows : Rows L) (links : List ℕ) → y < m.size.profiles → m.adjacency ≡ adjacency → AreRowsRound code side m y rows → length links ≡ m.size.points
+      pub links_of_rows : (y : ℕ) (adjacency : Adjacency) (rows : Rows L) (links : List ℕ) → y < m.size.profiles → m.adjacency ≡ adjacency → AreRowsRound code side m y rows
+          → length links ≡ m.size.points
           → AreLinked code side adjacency rows links → AreFirstLinksFrom m side (y * m.size.points) links
       links_of_rows y adjacency rows links profile is round long linked = λ x within.
           let column : x < m.size.points = omega (arith, within, long) in
@@ -118,7 +121,8 @@ module _ (m : Map) (side : SideName) where
           (linked x within)
 
   -- links, and those of the indexes after them
-  pub links_append : (first next : ℕ) (links more : List ℕ) → next ≡ first + length links → AreFirstLinksFrom m side first links → AreFirstLinksFrom m side next more → AreFirstLinksFrom m side first (links ++ more)
+  pub links_append : (first next : ℕ) (links more : List ℕ) → next ≡ first + length links → AreFirstLinksFrom m side first links → AreFirstLinksFrom m side next more
+      → AreFirstLinksFrom m side first (links ++ more)
   links_append first next links more e some others = λ k within. elim (cases_lt k (length links)) [
     | inl less ↦ rw (get_or_append_left links more 0 k less) (some k less)
     | inr past ↦

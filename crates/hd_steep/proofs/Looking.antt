@@ -37,7 +37,18 @@ module _ (m : Map) (side : SideName) (whole : IsMap m) (adjacency : Adjacency) (
             let x : q.x ≡ column = ap (λ (o : Pos). o.x) one.place in
             let e : q.y ≡ y = ap (λ (o : Pos). o.y) one.place in
             record {
-              round = record { profile = omega (arith, e); round = record { column = (omega (arith, x, near), omega (arith, x, near)); profile = (omega (arith, e, row), omega (arith, e, row)); beside = one.beside } };
+              round = record {
+                profile = omega (arith, e);
+                round = record {
+                  column = (omega (arith, x, near), omega (arith, x, near));
+                  profile = (
+                    omega (arith, e, row),
+                    omega
+                        (arith, e, row),
+                  );
+                  beside = one.beside;
+                };
+              };
               before = omega (arith, x);
             }
       ])
@@ -46,7 +57,8 @@ module _ (m : Map) (side : SideName) (whole : IsMap m) (adjacency : Adjacency) (
         | inr not ↦ inr (record { place = same_pos q at (let b = r.before in omega (arith, b, not)) (let e = r.round.profile in omega (arith, e)); beside = r.round.round.beside })
       ])
       (low_join m side whole P Q low other (λ q o s t there. place_before m.size q o
-      (let a = s.round.profile in let b : o.y ≡ y = ap (λ (i : Pos). i.y) t.place in omega (arith, a, b)) (let a = s.before in let b : o.x ≡ column = ap (λ (i : Pos). i.x) t.place in omega (arith, a, b))) before here)
+      (let a = s.round.profile in let b : o.y ≡ y = ap (λ (i : Pos). i.y) t.place in omega (arith, a, b))
+      (let a = s.before in let b : o.x ≡ column = ap (λ (i : Pos). i.x) t.place in omega (arith, a, b))) before here)
 
   -- one profile more
   pub round_more : (y : ℕ) (low other : Rank) → IsLow m side (IsRoundTo adjacency p y) low → IsLow m side (IsRoundIn adjacency p (y + 1)) other

@@ -36,7 +36,8 @@ wide_at code columns shift keys wide near x key inside read =
     (is, subst (IsKey code) (sym is) (wide.each (x + shift)))
 
 -- one more column is tested
-pub tested_more : {L : Type 0} → (code : Encoding L) (side : SideName) (below : Rank → Rank → Bool) (keys : List L) (shift : ℕ) (level : List L) (marks : List Bool) (x : ℕ) (key own : L) (mark : Bool) → x < length marks
+pub tested_more : {L : Type 0} → (code : Encoding L) (side : SideName) (below : Rank → Rank → Bool) (keys : List L) (shift : ℕ) (level : List L) (marks : List Bool) (x : ℕ)
+    (key own : L) (mark : Bool) → x < length marks
     → key ≡ number_in code keys (x + shift) → own ≡ number_in code level (x + 1) → ((i j : ℕ) → mark ≡ below (rank_of code side i key) (rank_of code side j own))
     → AreTested code side below keys shift level x marks → AreTested code side below keys shift level (x + 1) (set marks x mark)
 tested_more code side below keys shift level marks x key own mark inside key_is own_is told before =
@@ -107,7 +108,8 @@ module _ {L : Type 0} (code : Encoding L) (level : List L) (marks : List Bool) w
   listed_none = record { inside = λ x h. absurd (Contains-none x h); shown = λ x h. absurd (Contains-none x h); all = λ x below. absurd (omega (arith, below)); few = omega arith }
 
   -- and one column more
-  pub listed_more : (n : ℕ) (columns : List ℕ) (listed : Bool) → listed ≡ is_marked marks n && is_shown n → AreListedBefore code level marks n columns → AreListedBefore code level marks (n + 1) (if listed then columns ++ n ∷ [] else columns)
+  pub listed_more : (n : ℕ) (columns : List ℕ) (listed : Bool) → listed ≡ is_marked marks n && is_shown n → AreListedBefore code level marks n columns
+      → AreListedBefore code level marks (n + 1) (if listed then columns ++ n ∷ [] else columns)
   listed_more n columns true is before =
       let here = and_parts (is_marked marks n) (is_shown n) (sym is) in
       record {

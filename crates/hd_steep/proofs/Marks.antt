@@ -105,7 +105,8 @@ module _ {V : Type 0} (below : V → V → Bool) (laws : IsStrictOrder below) (a
         | inr low ↦ elim (cases_Bool (is_marked marks n)) [
           | inl marked ↦ (
             n,
-            lowest_more n n (record { marked = marked; lowest = λ j inside is'. not_above-trans below laws (at n) (at k) (at j) low (before.lowest j inside is') }) (λ is'. not_above-refl below laws (at n)),
+            lowest_more n n (record { marked = marked; lowest = λ j inside is'. not_above-trans below laws (at n) (at k) (at j) low (before.lowest j inside is') })
+                (λ is'. not_above-refl below laws (at n)),
           )
           | inr not ↦ (k, lowest_more n k before (λ marked. absurd (both_ways (is_marked marks n) not marked)))
         ]

@@ -54,7 +54,8 @@ module _ (m : Map) (side : SideName) where
         let inside = root_below pits (number_at x.index) (found.0).index is in (
           inside,
           λ d.
-              let same : (found.0).index ≡ (get_or pits (number_at x.index) d).index = same_Some (found.0).index (get_or pits (number_at x.index) d).index (sym is ∙ root_at pits (number_at x.index) d inside) in
+              let same : (found.0).index ≡ (get_or pits (number_at x.index) d).index = same_Some (found.0).index (get_or pits (number_at x.index) d).index
+              (sym is ∙ root_at pits (number_at x.index) d inside) in
               subst (λ (r : Rank). IsRoot m side x r)
               (same_index m found.0 (get_or pits (number_at x.index) d) (root-is_pit m side x found.0 found.1).point (numbered_pit (number_at x.index) d inside).point same) found.1,
         )

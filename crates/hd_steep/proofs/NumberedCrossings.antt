@@ -17,11 +17,15 @@ use Rattle.hd_steep.proofs.Pits.{AreRising, rising_apart}
 
 module _ (m : Map) (side : SideName) (regions : Numbering) (are : AreNumbered m side regions) where
   -- a point has the number of the pit in whose region it lies
-  pub number-of_point : (x : Rank) → IsPoint m x → IsNumberOf m side regions.pits x (slice_index regions.numbers x.index) × (number_of regions.pits (slice_index regions.numbers x.index) ≡ Some (slice_index regions.numbers x.index))
+  pub number-of_point : (x : Rank) → IsPoint m x → IsNumberOf m side regions.pits x (slice_index regions.numbers x.index)
+      × (number_of regions.pits (slice_index regions.numbers x.index) ≡ Some (slice_index regions.numbers x.index))
   number-of_point x point =
       let found = number_of_point m side regions are x point in
-      let none : Rank = record { height = pos 0; index = 0 } in
-      (record { inside = found.0; root = found.1 none }, ap (λ b. if b then Some (slice_index regions.numbers x.index) else None) (lt-ltb (slice_index regions.numbers x.index) (length regions.pits) found.0))
+      let none : Rank = record { height = pos 0; index = 0 } in (
+        record { inside = found.0; root = found.1 none },
+        ap (λ b. if b then Some (slice_index regions.numbers x.index) else None)
+            (lt-ltb (slice_index regions.numbers x.index) (length regions.pits) found.0),
+      )
 
   -- so the point of an index
   module _ (k : ℕ) (there : HasPointAt m k) where
@@ -38,7 +42,8 @@ module _ (m : Map) (side : SideName) (regions : Numbering) (are : AreNumbered m 
       at = there.at;
       point = there.point;
       index_is = there.index_is;
-      number = subst (IsNumberOf m side regions.pits there.at) (ap (slice_index regions.numbers) (sym there.index_is) ∙ same_Some (slice_index regions.numbers k) n (sym number_there ∙ is)) (number-of_point there.at there.point).0;
+      number = subst (IsNumberOf m side regions.pits there.at) (ap (slice_index regions.numbers) (sym there.index_is)
+          ∙ same_Some (slice_index regions.numbers k) n (sym number_there ∙ is)) (number-of_point there.at there.point).0;
     }
 
 module _ (m : Map) (side : SideName) (pits : List Rank) (x y : Rank) (a b : ℕ) (from : IsNumberOf m side pits x a) (to : IsNumberOf m side pits y b) where

@@ -13,7 +13,8 @@ module _ {X : Type 0} where
       let left : List X = remove ys at.0 in
       let moved = IsPermutation-remove ys at.0 x at.1 (sym at.2) in
       let long : length (x ∷ left) ≡ length ys = length_permutation ys (x ∷ left) moved in
-      let rest : length xs ≤ length left = length-le_from_once xs left (AllPairs-tail (λ (a : X) (b : X). a ≢ b) x xs once) (λ z h. elim (Contains-cases x z left (Contains-permutation ys (x ∷ left) z moved (within z (Contains-tail x z xs h)))) [
+      let rest : length xs ≤ length left = length-le_from_once xs left (AllPairs-tail (λ (a : X) (b : X). a ≢ b) x xs once)
+      (λ z h. elim (Contains-cases x z left (Contains-permutation ys (x ∷ left) z moved (within z (Contains-tail x z xs h)))) [
         | inl same ↦ absurd (AllPairs-first (λ (a : X) (b : X). a ≢ b) x z xs once h (sym same))
         | inr later ↦ later
       ]) in

@@ -45,7 +45,8 @@ module _ (m : Map) (side : SideName) (whole : IsMap m) (at : Pos) (here : Presen
   none_lower r lower =
       let n = lower.near in
       let from : n.from ≡ at = same_point m n.from at n.neighbour.from here (sym n.from_rank) in
-      let round : IsRound m.adjacency at n.to = subst (λ (p : Pos). IsRound m.adjacency p n.to) from (record { column = n.neighbour.columns; profile = n.neighbour.rows; beside = n.neighbour.beside }) in
+      let round : IsRound m.adjacency at n.to = subst (λ (p : Pos). IsRound m.adjacency p n.to) from
+      (record { column = n.neighbour.columns; profile = n.neighbour.rows; beside = n.neighbour.beside }) in
       rw n.to_rank (of.least n.to round n.neighbour.to)
 
   -- it has the index of the point only if that is a pit

@@ -42,7 +42,8 @@ pair-from m at inside p n e =
     }
 
 -- where one place alone stands round an index, no pair from there leads to another
-pub surrounded-apart : (m : Map) (places : List ℕ) (a index : ℕ) → ((p q : Pos) → InGrid m.size p → InGrid m.size q → place_of m.size p ≡ index → IsNear p.x q.x → IsNear p.y q.y → slice_get places (place_of m.size q) ≡ Some a)
+pub surrounded-apart : (m : Map) (places : List ℕ) (a index : ℕ) → ((p q : Pos) → InGrid m.size p → InGrid m.size q → place_of m.size p ≡ index → IsNear p.x q.x → IsNear p.y q.y
+    → slice_get places (place_of m.size q) ≡ Some a)
     → (j : ℕ) (p : Pair) → a < j → IsAcross m (HasPlace m places) a j p → p.from.index ≡ index → ⊥
 surrounded-apart m places a index round j p less across e =
     let n = across.near in
@@ -51,5 +52,6 @@ surrounded-apart m places a index round j p less across e =
     omega arith
 
 -- where no point is present at a position, no pair comes from there
-pub absent-apart : (m : Map) (places : List ℕ) (a : ℕ) (at : Pos) → InGrid m.size at → (Present m at → ⊥) → (j : ℕ) (p : Pair) → a < j → IsAcross m (HasPlace m places) a j p → p.from.index ≡ place_of m.size at → ⊥
+pub absent-apart : (m : Map) (places : List ℕ) (a : ℕ) (at : Pos) → InGrid m.size at → (Present m at → ⊥) → (j : ℕ) (p : Pair) → a < j → IsAcross m (HasPlace m places) a j p
+    → p.from.index ≡ place_of m.size at → ⊥
 absent-apart m places a at inside gone j p less across e = (let of = pair-from m at inside p across.near e in gone of.near.from)

@@ -81,10 +81,12 @@ module _ (m : Map) (side : SideName) (whole : IsMap m) {L : Type 0} (code : Enco
     ] refl
 
     -- what stands where one is present is its rank
-    pub rank_read : (height : ℤ) → Present m at → on_side side (code.shown (number_in code row.keys.items (at.x + 1))) ≡ Some height → (rank m at) ≡ record { height = height; index = row.first + at.x }
+    pub rank_read : (height : ℤ) → Present m at → on_side side (code.shown (number_in code row.keys.items (at.x + 1))) ≡ Some height
+        → (rank m at) ≡ record { height = height; index = row.first + at.x }
     rank_read height here shown =
         let place : at.x + 1 < m.size.points + 2 = (let column = inside.column in omega (arith, column)) in
-        let is : rank_in (ranks_of code side row) (at.x + 1) ≡ record { height = height; index = row.first + (at.x + 1) - 1 } = rank_at (at.x + 1) place ∙ ap (rank_shown (missing side) (row.first + (at.x + 1) - 1)) shown in
+        let is : rank_in (ranks_of code side row) (at.x + 1) ≡ record { height = height; index = row.first + (at.x + 1) - 1 } = rank_at (at.x + 1) place
+        ∙ ap (rank_shown (missing side) (row.first + (at.x + 1) - 1)) shown in
         let index : row.first + (at.x + 1) - 1 ≡ row.first + at.x = omega arith in
         elim low_at.origin [
           | inl none ↦ absurd (low_missing m side whole (IsAtPlace y (at.x + 1)) (rank_in (ranks_of code side row) (at.x + 1)) low_at none at (record { profile = profile; place = refl }) here)

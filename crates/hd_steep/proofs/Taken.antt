@@ -76,7 +76,8 @@ module _ (at q : Pos) where
   beside_taken Four marks (suc (suc (suc (suc zero)))) below h s b = h
   beside_taken Four marks (suc (suc (suc (suc (suc zero))))) below h s b = let p = s.place in let r = s.profile in absurd (no_line 5 (λ e. omega (arith, p, e)) (λ e. omega (arith, r, e)) b)
   beside_taken Four marks (suc (suc (suc (suc (suc (suc zero)))))) below h s b = h
-  beside_taken Four marks (suc (suc (suc (suc (suc (suc (suc zero))))))) below h s b = let p = s.place in let r = s.profile in absurd (no_line 7 (λ e. omega (arith, p, e)) (λ e. omega (arith, r, e)) b)
+  beside_taken Four marks (suc (suc (suc (suc (suc (suc (suc zero))))))) below h s b = let p = s.place in let r = s.profile in absurd
+      (no_line 7 (λ e. omega (arith, p, e)) (λ e. omega (arith, r, e)) b)
   beside_taken Four marks (suc (suc (suc (suc (suc (suc (suc (suc k)))))))) below h s b = absurd (omega (arith, below))
   beside_taken Six marks zero below h s b = h
   beside_taken Six marks (suc zero) below h s (inl b) = let p = s.place in let r = s.profile in absurd (no_line 1 (λ e. omega (arith, p, e)) (λ e. omega (arith, r, e)) b)

@@ -123,7 +123,8 @@ module _ (m : Map) (side : SideName) where
       traces_same t d link.a link.b along.from along.to t.numbers same
 
   -- its numbers are those of pits
-  pub with_pits : (pits : List Rank) (old : List Link) (d : Descent) (link : Link) (keep : Bool) → IsCrossingAlong m side pits d link → All (HasPits pits) old → All (HasPits pits) (if keep then old ++ link ∷ [] else old)
+  pub with_pits : (pits : List Rank) (old : List Link) (d : Descent) (link : Link) (keep : Bool) → IsCrossingAlong m side pits d link → All (HasPits pits) old
+      → All (HasPits pits) (if keep then old ++ link ∷ [] else old)
   with_pits pits old d link true along all = All-push (HasPits pits) old link all (along.from.number.inside, along.to.number.inside)
   with_pits pits old d link false along all = all
 
@@ -154,7 +155,8 @@ module _ (m : Map) (side : SideName) where
         }
 
     -- where descents from some points are traced across, the passes are gathered at these
-    pub gathers_traced : (C : Pos → Type 0) (list : List Descent) → Descends m side C [] list → Extends m side [] (traced_passes m side t) → ((d : Descent) → Contains list d → IsTracedAcross m side t d)
+    pub gathers_traced : (C : Pos → Type 0) (list : List Descent) → Descends m side C [] list → Extends m side [] (traced_passes m side t)
+        → ((d : Descent) → Contains list d → IsTracedAcross m side t d)
         → Gathers m side C [] (traced_passes m side t)
     gathers_traced C list descends extends across = record {
       extends = extends;

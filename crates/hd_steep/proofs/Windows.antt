@@ -31,7 +31,8 @@ six_beside x y first q few row (inr place) = elim (cases_eq first 0) [
   | inr one ↦ inr (inl (omega (arith, few, one, place), omega (arith, few, one, row)))
 ]
 
-six_place : (x y first : ℕ) (q : Pos) → first ≤ 1 → q.y + 1 ≡ y + 2 * first → x ≤ q.x + 1 → q.x ≤ x + 1 → AreBesideUnder Six (record { x = x; y = y }) q → (q.x + 1 ≡ x + first) ⊎ (q.x + 1 ≡ x + first + 1)
+six_place : (x y first : ℕ) (q : Pos) → first ≤ 1 → q.y + 1 ≡ y + 2 * first → x ≤ q.x + 1 → q.x ≤ x + 1 → AreBesideUnder Six (record { x = x; y = y }) q → (q.x + 1 ≡ x + first)
+    ⊎ (q.x + 1 ≡ x + first + 1)
 six_place x y first q few row low high (inl (inl column)) = elim (cases_eq first 0) [ inl none ↦ inr (omega (arith, none, column)) | inr one ↦ inl (omega (arith, few, one, column)) ]
 six_place x y first q few row low high (inl (inr profile)) = absurd (elim (cases_eq first 0) [ inl none ↦ omega (arith, none, row, profile) | inr one ↦ omega (arith, few, one, row, profile) ])
 six_place x y first q few row low high (inr (inl after)) = elim (cases_eq first 0) [
@@ -68,7 +69,8 @@ module _ (m : Map) (side : SideName) (y row : ℕ) (round : IsRowRound y row) wh
     -- where all three are beside the point, the lowest of three
     low_of_three : (x : ℕ) → x < m.size.points → ((q : Pos) → q.y + 1 ≡ row → AreBesideUnder m.adjacency (record { x = x; y = y }) q)
         → IsLow m side (IsRoundIn m.adjacency (record { x = x; y = y }) row) (lowest_of_three side ranks x)
-    low_of_three x below beside = low_same m side (λ q. (IsAtPlace row x q ⊎ IsAtPlace row (x + 1) q) ⊎ IsAtPlace row (x + 2) q) (IsRoundIn m.adjacency (record { x = x; y = y }) row) (lowest_of_three side ranks x)
+    low_of_three x below beside = low_same m side (λ q. (IsAtPlace row x q ⊎ IsAtPlace row (x + 1) q) ⊎ IsAtPlace row (x + 2) q)
+        (IsRoundIn m.adjacency (record { x = x; y = y }) row) (lowest_of_three side ranks x)
         (λ q here s. elim s [
           | inl u ↦ elim u [
             | inl v ↦ placed x x q (omega arith) (omega arith) v (beside q v.profile)
@@ -99,7 +101,8 @@ module _ (m : Map) (side : SideName) (y row : ℕ) (round : IsRowRound y row) wh
     -- under 6 the lower of two, in the row above from the place before the own one, in the row below from the own one
     low_six : m.adjacency ≡ Six → (first : ℕ) → first ≤ 1 → row ≡ y + 2 * first → (x : ℕ) → x < m.size.points
         → IsLow m side (IsRoundIn m.adjacency (record { x = x; y = y }) row) (lower_of_two side ranks (x + first))
-    low_six six first few own x below = low_same m side (λ q. IsAtPlace row (x + first) q ⊎ IsAtPlace row (x + first + 1) q) (IsRoundIn m.adjacency (record { x = x; y = y }) row) (lower_of_two side ranks (x + first))
+    low_six six first few own x below = low_same m side (λ q. IsAtPlace row (x + first) q ⊎ IsAtPlace row (x + first + 1) q) (IsRoundIn m.adjacency (record { x = x; y = y }) row)
+        (lower_of_two side ranks (x + first))
         (λ q here s. elim s [
           | inl at ↦ placed x (x + first) q (omega arith) (omega (arith, few)) at (rw six (six_beside x y first q few (let e = at.profile in omega (arith, e, own)) (inl at.place)))
           | inr at ↦ placed x (x + first + 1) q (omega arith) (omega (arith, few)) at (rw six (six_beside x y first q few (let e = at.profile in omega (arith, e, own)) (inr at.place)))
@@ -123,7 +126,8 @@ module _ (m : Map) (side : SideName) (whole : IsMap m) (y x : ℕ) (below : x < 
   low_above Eight is of = low_eight m side y y (omega arith, omega arith) whole ranks of is x below
 
   -- and of the row below it
-  pub low_below : (adjacency : Adjacency) → m.adjacency ≡ adjacency → IsRowOf m side (y + 2) ranks → IsLow m side (IsRoundIn m.adjacency (record { x = x; y = y }) (y + 2)) (lowest_below adjacency side ranks x)
+  pub low_below : (adjacency : Adjacency) → m.adjacency ≡ adjacency → IsRowOf m side (y + 2) ranks
+      → IsLow m side (IsRoundIn m.adjacency (record { x = x; y = y }) (y + 2)) (lowest_below adjacency side ranks x)
   low_below Four is of = low_four m side y (y + 2) (omega arith, omega arith) whole ranks of is (λ e. omega (arith, e)) x below
   low_below Six is of = low_six m side y (y + 2) (omega arith, omega arith) whole ranks of is 1 (omega arith) (omega arith) x below
   low_below Eight is of = low_eight m side y (y + 2) (omega arith, omega arith) whole ranks of is x below

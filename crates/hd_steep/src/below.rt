@@ -11,7 +11,8 @@ use hd_map::{Lane, Side, SideName};
 pub fn is_below_earlier<S: Side, L: Lane>(key: L, earlier: L) -> bool
     requires key { IsKey L.code key }
     requires earlier { IsKey L.code earlier }
-    ensures { (i j : ℕ) → result ≡ later_below S.NAME (rank_of L.code S.NAME i key) (rank_of L.code S.NAME j earlier) }
+    ensures { (i j : ℕ) → result ≡ later_below S.NAME (rank_of L.code S.NAME i key)
+        (rank_of L.code S.NAME j earlier) }
 {
     match S::NAME {
         SideName::Dales => key.exceeds(earlier),
@@ -24,7 +25,8 @@ pub fn is_below_earlier<S: Side, L: Lane>(key: L, earlier: L) -> bool
 pub fn is_below_later<S: Side, L: Lane>(key: L, later: L) -> bool
     requires key { IsKey L.code key }
     requires later { IsKey L.code later }
-    ensures { (i j : ℕ) → result ≡ earlier_below S.NAME (rank_of L.code S.NAME i key) (rank_of L.code S.NAME j later) }
+    ensures { (i j : ℕ) → result ≡ earlier_below S.NAME (rank_of L.code S.NAME i key)
+        (rank_of L.code S.NAME j later) }
 {
     match S::NAME {
         SideName::Dales => !later.exceeds(key),

@@ -45,7 +45,8 @@ pub fn crossings<S: Side, G: Heights>(
     regions: &Regions,
 ) -> Result<List<Link>, Memory>
     requires { AreNumbered (G.map grid.now) S.NAME regions.now }
-    ensures passes { IfOk result (λ xs. AreCrossingsUnder (G.map grid.now) S.NAME (roots_of regions.now) (passes_of S.NAME regions.now.pits xs)) }
+    ensures passes { IfOk result (λ xs. AreCrossingsUnder (G.map grid.now) S.NAME
+        (roots_of regions.now) (passes_of S.NAME regions.now.pits xs)) }
     ensures pits { IfOk result (All (HasPits regions.now.pits)) }
 {
     if let Some(crossings) = found_crossings::<S, i32, G>(alloc, grid, regions)? {
@@ -143,7 +144,8 @@ fn cross_profile<S: Side, L: Lane, G: Heights>(
     requires regions { AreNumbered (G.map grid.now) S.NAME regions.now }
     requires descended { HasDescended L.code S.NAME (G.map grid.now) y descending.now }
     requires room { 8 * (G.map grid.now).size.points ≤ length room.old }
-    ensures crosses { AreCrossingsAt (G.map grid.now) S.NAME regions.now.pits (λ u. u.y ≡ y) (take result room.new) }
+    ensures crosses { AreCrossingsAt (G.map grid.now) S.NAME regions.now.pits (λ u. u.y ≡ y)
+        (take result room.new) }
     ensures few { result ≤ length room.old }
 {
     let level = descending.level();

@@ -114,7 +114,8 @@ fn descend_columns<S: Side, L: Lane, G: Heights>(
     requires lower { AreLowerPlaces L.code S.NAME (G.map grid.now).size.points rows.now lower.now }
     requires present { (x : ℕ) → Contains columns.now x → Present (G.map grid.now) (record { x = x; y = y }) }
     requires room { 8 * length columns.now ≤ length room.old }
-    ensures descends { Descends (G.map grid.now) S.NAME (λ u. (u.y ≡ y) × Contains columns.now u.x) [] (take result room.new) }
+    ensures descends { Descends (G.map grid.now) S.NAME (λ u. (u.y ≡ y) × Contains columns.now u.x)
+        [] (take result room.new) }
     ensures few { result ≤ 8 * length columns.now }
 {
     let mut count = 0;
@@ -138,7 +139,8 @@ fn descend_point<S: Side, L: Lane, G: Heights>(
     requires rows { AreRowsRound L.code S.NAME (G.map grid.now) at.y rows.now }
     requires lower { AreLowerPlaces L.code S.NAME (G.map grid.now).size.points rows.now lower.now }
     requires room { count + 8 ≤ length room.old }
-    ensures descends { Descends (G.map grid.now) S.NAME (λ u. u ≡ at) (take count room.old) (take result room.new) }
+    ensures descends { Descends (G.map grid.now) S.NAME (λ u. u ≡ at) (take count room.old)
+        (take result room.new) }
     ensures few { result ≤ count + 8 }
 {
     let columns = grid.size().points as usize;
@@ -160,7 +162,8 @@ fn descend<L: Lane>(
     requires level { rows.now.level.first + x < 4294967295 }
     requires below { rows.now.below.first + x < 4294967295 }
     requires room { count + 8 ≤ length room.old }
-    ensures descents { take result room.new ≡ with_descents (rows.now.level.first + x) (indexes_round rows.now x) marks.now (take count room.old) 8 }
+    ensures descents { take result room.new ≡ with_descents (rows.now.level.first + x)
+        (indexes_round rows.now x) marks.now (take count room.old) 8 }
     ensures few { result ≤ count + 8 }
 {
     let above = rows.above.first + x;

@@ -39,7 +39,8 @@ impl Found {
         requires room { length self.old.slots.items < 2 ^ 32 }
         requires indexed { AreIndexed self.old.slots.items self.old.borders.items }
         requires few { All (λ l. l.pairs < 2 ^ 63) self.old.borders.items }
-        ensures adds { OnOk result (Adds (below_by S.NAME) a b higher self.old.borders.items self.new.borders.items) }
+        ensures adds { OnOk result (Adds (below_by S.NAME) a b higher self.old.borders.items
+            self.new.borders.items) }
         ensures indexed { OnOk result (AreIndexed self.new.slots.items self.new.borders.items) }
         ensures long { length self.new.slots.items ≡ length self.old.slots.items }
     {
@@ -60,7 +61,8 @@ impl Found {
 
     /// Moves the borders to the end of a list, in the order of their greater places.
     pub fn move_to(&mut self, list: &mut Vec<Border>) -> Result<(), Memory>
-        ensures moved { OnOk result ((sorted : Items Border) × IsPermutation self.old.borders.items sorted × IsNonDecreasingBy (λ l. l.b) sorted
+        ensures moved { OnOk result ((sorted : Items Border)
+            × IsPermutation self.old.borders.items sorted × IsNonDecreasingBy (λ l. l.b) sorted
             × (list.new.items ≡ list.old.items ++ sorted)) }
         ensures none { OnOk result (self.new.borders.items ≡ []) }
         ensures slots { self.new.slots ≡ self.old.slots }

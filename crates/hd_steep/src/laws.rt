@@ -22,5 +22,6 @@ pub fn pit_is_its_own_root()
 
 /// A map has one list of regions at most.
 pub fn regions_are_determined()
-    ensures { (m : Map) (side : SideName) (a b : List (Option ℕ)) → IsMap m → AreRegions m side a → AreRegions m side b → a ≡ b }
+    ensures { (m : Map) (side : SideName) (a b : List (Option ℕ)) → IsMap m → AreRegions m side a
+        → AreRegions m side b → a ≡ b }
 {}

@@ -21,7 +21,8 @@ pub struct Low<L> {
 pub fn lower_key<S: Side, L: Lane>(first: Low<L>, second: Low<L>) -> Low<L>
     requires first { IsKey L.code first.key }
     requires second { IsKey L.code second.key }
-    ensures { (a b : Rank) → IsLowOf L.code S.NAME a first → IsLowOf L.code S.NAME b second → IsLowOf L.code S.NAME (lower_of S.NAME a b) result }
+    ensures { (a b : Rank) → IsLowOf L.code S.NAME a first → IsLowOf L.code S.NAME b second
+        → IsLowOf L.code S.NAME (lower_of S.NAME a b) result }
 {
     let is_second = is_below_earlier::<S, L>(second.key, first.key);
     Low {
@@ -35,7 +36,8 @@ pub fn lower_key<S: Side, L: Lane>(first: Low<L>, second: Low<L>) -> Low<L>
 pub fn low_above<S: Side, L: Lane>(adjacency: Adjacency, keys: &[L], first: u32, x: usize) -> Low<L>
     requires keys { AreIndexed L.code first keys.now }
     requires inside { x + 2 < length keys.now }
-    ensures { IsLowOf L.code S.NAME (lowest_above adjacency S.NAME (ranks_in L.code S.NAME first keys.now) x) result }
+    ensures { IsLowOf L.code S.NAME (lowest_above adjacency S.NAME
+        (ranks_in L.code S.NAME first keys.now) x) result }
 {
     match adjacency {
         Adjacency::Four => low_at::<S, L>(keys, first, x + 1),
@@ -49,7 +51,8 @@ pub fn low_above<S: Side, L: Lane>(adjacency: Adjacency, keys: &[L], first: u32,
 pub fn low_below<S: Side, L: Lane>(adjacency: Adjacency, keys: &[L], first: u32, x: usize) -> Low<L>
     requires keys { AreIndexed L.code first keys.now }
     requires inside { x + 2 < length keys.now }
-    ensures { IsLowOf L.code S.NAME (lowest_below adjacency S.NAME (ranks_in L.code S.NAME first keys.now) x) result }
+    ensures { IsLowOf L.code S.NAME (lowest_below adjacency S.NAME
+        (ranks_in L.code S.NAME first keys.now) x) result }
 {
     match adjacency {
         Adjacency::Four => low_at::<S, L>(keys, first, x + 1),
@@ -63,7 +66,8 @@ pub fn low_below<S: Side, L: Lane>(adjacency: Adjacency, keys: &[L], first: u32,
 pub fn low_of_three<S: Side, L: Lane>(keys: &[L], first: u32, x: usize) -> Low<L>
     requires keys { AreIndexed L.code first keys.now }
     requires inside { x + 2 < length keys.now }
-    ensures { IsLowOf L.code S.NAME (lowest_of_three S.NAME (ranks_in L.code S.NAME first keys.now) x) result }
+    ensures { IsLowOf L.code S.NAME (lowest_of_three S.NAME
+        (ranks_in L.code S.NAME first keys.now) x) result }
 {
     let two = low_of_two::<S, L>(keys, first, x);
     lower_key::<S, L>(two, low_at::<S, L>(keys, first, x + 2))

@@ -55,7 +55,8 @@ fn find_borders<S: Side, G: Heights>(
     requires chains { AreChains places.now (length found.old.slots.items) chains.now }
     requires inside { place < length found.old.slots.items }
     requires none { found.old.borders.items ≡ [] }
-    ensures found { OnOk result (AreFound (G.map grid.now) S.NAME places.now (λ p. Unit {0}) place found.new) }
+    ensures found { OnOk result (AreFound (G.map grid.now) S.NAME places.now
+        (λ p. Unit {0}) place found.new) }
     ensures long { OnOk result (length found.new.slots.items ≡ length found.old.slots.items) }
 {
     let mut index = chains.firsts[place as usize];
@@ -79,7 +80,8 @@ fn note_point<S: Side, G: Heights>(
     requires few { length found.old.slots.items < 2 ^ 32 }
     requires place { slice_get places.now index ≡ Some place }
     requires before { AreFoundBefore (G.map grid.now) S.NAME places.now place index found.old }
-    ensures found { OnOk result (AreFoundBefore (G.map grid.now) S.NAME places.now place (index + 1) found.new) }
+    ensures found { OnOk result (AreFoundBefore (G.map grid.now) S.NAME places.now place
+        (index + 1) found.new) }
     ensures long { OnOk result (length found.new.slots.items ≡ length found.old.slots.items) }
 {
     let size = grid.size();
@@ -98,7 +100,8 @@ fn note_point<S: Side, G: Heights>(
 #[inline]
 fn is_surrounded(places: &[u32], size: Size, place: u32, index: u32) -> bool
     requires whole { length places.now ≡ cell_count size }
-    ensures { result ≡ true → (p q : _) → InGrid size p → InGrid size q → place_of size p ≡ index → IsNear p.x q.x → IsNear p.y q.y → slice_get places.now (place_of size q) ≡ Some place }
+    ensures { result ≡ true → (p q : _) → InGrid size p → InGrid size q → place_of size p ≡ index
+        → IsNear p.x q.x → IsNear p.y q.y → slice_get places.now (place_of size q) ≡ Some place }
 {
     let index = index as usize;
     let row = size.points as usize;
@@ -134,8 +137,10 @@ fn note_round<S: Side, G: Heights>(
     requires few { length found.old.slots.items < 2 ^ 32 }
     requires present { Present (G.map grid.now) at }
     requires place { slice_get places.now (place_of (G.map grid.now).size at) ≡ Some place }
-    requires before { AreFoundBefore (G.map grid.now) S.NAME places.now place (place_of (G.map grid.now).size at) found.old }
-    ensures found { OnOk result (AreFoundBefore (G.map grid.now) S.NAME places.now place (place_of (G.map grid.now).size at + 1) found.new) }
+    requires before { AreFoundBefore (G.map grid.now) S.NAME places.now place
+        (place_of (G.map grid.now).size at) found.old }
+    ensures found { OnOk result (AreFoundBefore (G.map grid.now) S.NAME places.now place
+        (place_of (G.map grid.now).size at + 1) found.new) }
     ensures long { OnOk result (length found.new.slots.items ≡ length found.old.slots.items) }
 {
     note_step::<S, G>(grid, places, place, at, 0, found)?;
@@ -167,7 +172,8 @@ fn note_step<S: Side, G: Heights>(
     requires place { slice_get places.now (place_of (G.map grid.now).size at) ≡ Some place }
     requires step { step < 9 }
     requires before { AreFoundTo (G.map grid.now) S.NAME places.now place at step found.old }
-    ensures found { OnOk result (AreFoundTo (G.map grid.now) S.NAME places.now place at (step + 1) found.new) }
+    ensures found { OnOk result (AreFoundTo (G.map grid.now) S.NAME places.now place at
+        (step + 1) found.new) }
     ensures long { OnOk result (length found.new.slots.items ≡ length found.old.slots.items) }
 {
     if let Some(to) = position_beside(grid.size(), at, step) {
@@ -183,7 +189,8 @@ fn position_beside(size: Size, at: Pos, step: u32) -> Option<Pos>
     requires size { IsSize size }
     requires inside { InGrid size at }
     requires step { step < 9 }
-    ensures { MatchOption result ((q : _) → InGrid size q → q.x + 1 ≡ at.x + step % 3 → q.y + 1 ≡ at.y + step / 3 → ⊥)
+    ensures { MatchOption result ((q : _) → InGrid size q → q.x + 1 ≡ at.x + step % 3
+        → q.y + 1 ≡ at.y + step / 3 → ⊥)
         (λ q. InGrid size q × (q.x + 1 ≡ at.x + step % 3) × (q.y + 1 ≡ at.y + step / 3)) }
 {
     let (x, y) = (at.x + step % 3, at.y + step / 3);
@@ -214,7 +221,8 @@ fn note_pair<S: Side, G: Heights>(
     requires inside { InGrid (G.map grid.now).size to }
     requires columns { IsNear at.x to.x }
     requires profiles { IsNear at.y to.y }
-    ensures notes { OnOk result (NotesPair (G.map grid.now) S.NAME places.now place at to found.old.borders.items found.new.borders.items) }
+    ensures notes { OnOk result (NotesPair (G.map grid.now) S.NAME places.now place at to
+        found.old.borders.items found.new.borders.items) }
     ensures indexed { OnOk result (AreIndexed found.new.slots.items found.new.borders.items) }
     ensures long { OnOk result (length found.new.slots.items ≡ length found.old.slots.items) }
 {

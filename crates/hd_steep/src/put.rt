@@ -6,7 +6,8 @@ ghost use Rattle.std.specs.Prelude.{◌≡◌, ◌<◌, ◌≤◌, ◌+◌, ◌+
 #[inline(always)]
 pub fn put<T: Copy + Drop>(room: &mut [T], count: usize, item: T, keep: bool) -> usize
     requires { count < length room.old }
-    ensures items { take result room.new ≡ (if keep then take count room.old ++ item ∷ [] else take count room.old) }
+    ensures items { take result room.new ≡ (if keep then take count room.old ++ item
+        ∷ [] else take count room.old) }
     ensures few { result ≤ count + 1 }
 {
     room[count] = item;

@@ -1,5 +1,6 @@
 -- Pits and counts of points, index by index.
-use Rattle.std.proofs.Common.{◌≡◌, ◌<◌, ◌≤◌, ◌+◌, ℕ, true, false, List, ◌∷◌, length, map, get_or, set, take, drop, drop-cons, Option, None, inl, inr, nat_eq, refl, sym, ap, ◌∙◌, add-one, arith, length-take-le}
+use Rattle.std.proofs.Common.{◌≡◌, ◌<◌, ◌≤◌, ◌+◌, ℕ, true, false, List, ◌∷◌, length, map, get_or, set, take, drop, drop-cons, Option, None, inl, inr}
+use Rattle.std.proofs.Common.{nat_eq, refl, sym, ap, ◌∙◌, add-one, arith, length-take-le}
 use Rattle.std.specs.Prelude.{filter}
 use Rattle.std.proofs.lemmas.Bool.{cases_eq}
 use Rattle.std.proofs.lemmas.Bool.Decides.{nat_tests}

@@ -45,7 +45,8 @@ features_heights side range kept tallies list heights ends are i d below =
     (lpvh_small side range one.pit one.nearest (heights i no_kept inside).pit (heights i no_kept inside).nearest ends)
 
 -- and no more points than are tallied
-pub features_points : (side : SideName) (range : Option HeightRange) (kept : List Kept) (tallies : List Tally) (list : List Region) (n : ℕ) → length tallies ≡ length kept → All (λ t. t.points ≤ n) tallies
+pub features_points : (side : SideName) (range : Option HeightRange) (kept : List Kept) (tallies : List Tally) (list : List Region) (n : ℕ) → length tallies ≡ length kept
+    → All (λ t. t.points ≤ n) tallies
     → AreFeaturesWith side range kept tallies (length kept) list → n ≤ 4194304 → All (λ r. r.points ≤ 4194304) list
 features_points side range kept tallies list n long few are most i d below =
     let inside : i < length kept = subst (λ n. i < n) are.whole below in

@@ -69,7 +69,8 @@ module _ (m : Map) (side : SideName) (thousandths : ℕ) (whole : IsMap m) (step
       }
 
 -- the same of the kept pits alone
-module _ (m : Map) (side : SideName) (thousandths : ℕ) (whole : IsMap m) (roots : List (Option ℕ)) (kept : List Kept) (regions : AreRegions m side roots) (alone : AreKeptAlone m side thousandths kept) where
+module _ (m : Map) (side : SideName) (thousandths : ℕ) (whole : IsMap m) (roots : List (Option ℕ)) (kept : List Kept) (regions : AreRegions m side roots)
+    (alone : AreKeptAlone m side thousandths kept) where
   pub heights_known : All HasHeights kept
   heights_known = kept_heights m side thousandths whole alone.steps alone.last alone.owner alone.pruning kept alone.are_kept
 

@@ -61,7 +61,8 @@ module _ (m : Map) (side : SideName) (thousandths : ℕ) (whole : IsMap m) (step
 
   module _ (kept : List Kept) (are : AreKept m side last kept) where
     kept_points : All (λ k. IsPoint m k.pit) kept
-    kept_points = All-unmap {X = Kept} {Y = Rank} (λ k. k.pit) (IsPoint m) kept (subst (λ (ps : List Rank). All (IsPoint m) ps) (sym are.pits) (last_each m side thousandths pruning.sz (IsPoint m) pruning.prunes pits_points))
+    kept_points = All-unmap {X = Kept} {Y = Rank} (λ k. k.pit) (IsPoint m) kept (subst (λ (ps : List Rank). All (IsPoint m) ps) (sym are.pits)
+        (last_each m side thousandths pruning.sz (IsPoint m) pruning.prunes pits_points))
 
     pub kept_ordered : AllPairs (λ a b. a.pit.index < b.pit.index) kept
     kept_ordered = AllPairs-unmap {X = Kept} {Y = Rank} (λ k. k.pit) (λ a b. a.index < b.index) kept

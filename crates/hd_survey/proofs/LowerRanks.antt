@@ -49,7 +49,8 @@ indexes : List Rank → List ℕ
 indexes xs = map (λ (r : Rank). r.index) xs
 
 -- ranks of rising indexes, sorted by an order, rise in it
-pub sorted_rise : (below : Rank → Rank → Bool) → IsStrictOrder below → (raw ys : List Rank) → AllPairs (λ a b. a.index < b.index) raw → IsPermutation raw ys → IsSortedBy below ys → AllPairs (λ a b. below a b ≡ true) ys
+pub sorted_rise : (below : Rank → Rank → Bool) → IsStrictOrder below → (raw ys : List Rank) → AllPairs (λ a b. a.index < b.index) raw → IsPermutation raw ys → IsSortedBy below ys
+    → AllPairs (λ a b. below a b ≡ true) ys
 sorted_rise below order raw ys rising moved sorted =
     let numbers : Rank → ℕ = λ r. r.index in
     let apart : AllPairs (λ a b. a ≢ b) (map numbers raw) = AllPairs-map numbers (λ a b. a ≢ b) raw (λ i j d less inside same. (let lt = rising i j d less inside in omega (arith, lt, same))) in
@@ -125,7 +126,8 @@ ranks_sorted below ys sorted = λ i d lo hi.
     subst (λ r. below r (get_or (ranks_of ys) i d) ≡ false) (sym a) (subst (λ r. below (get_or ys (i + 1) e).rank r ≡ false) (sym b) (sorted i e lo (omega (arith, long, hi))))
 
 -- the same where they change places
-pub moved_exactly : (m : Map) (side : SideName) (point : Rank) (raw ys : List Rank) → IsPermutation raw ys → ((q : Rank) → Contains raw q ↔ LowerNeighbour m side point q) → (q : Rank) → Contains ys q ↔ LowerNeighbour m side point q
+pub moved_exactly : (m : Map) (side : SideName) (point : Rank) (raw ys : List Rank) → IsPermutation raw ys → ((q : Rank) → Contains raw q ↔ LowerNeighbour m side point q)
+    → (q : Rank) → Contains ys q ↔ LowerNeighbour m side point q
 moved_exactly m side point raw ys moved exactly q = (
   λ h. (exactly q).0 (Contains-permutation ys raw q (IsPermutation-sym raw ys moved) h),
   λ h. Contains-permutation raw ys q moved ((exactly q).1 h),

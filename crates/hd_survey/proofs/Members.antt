@@ -38,7 +38,8 @@ pub record TellsMembers (m : Map) (side : SideName) (test : Option ℕ → Bool)
 some_one : (a b : Option ℕ) → ◌≡◌ {A = Option (Option ℕ)} (Some a) (Some b) → a ≡ b
 some_one a b e = cc
 
-module _ (m : Map) (whole : IsMap m) (side : SideName) (roots : List (Option ℕ)) (regions : AreRegions m side roots) (test : Option ℕ → Bool) (Member : Rank → Type 0) (tells : TellsMembers m side test Member) where
+module _ (m : Map) (whole : IsMap m) (side : SideName) (roots : List (Option ℕ)) (regions : AreRegions m side roots) (test : Option ℕ → Bool) (Member : Rank → Type 0)
+    (tells : TellsMembers m side test Member) where
   abbrev passes : ℕ → Bool
   passes k = test (get_or roots k None)
 

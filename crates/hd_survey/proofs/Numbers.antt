@@ -79,7 +79,8 @@ module _ (pits : List Rank) (ordered : AllPairs (λ a b. a.index < b.index) pits
 some_both : (pits : List Rank) (n : ℕ) → is_some (number_of pits n) ≡ is_some (root_of pits n)
 some_both pits n = elim (cases_lt n (length pits)) [
   | inl below ↦ (let yes : nat_lt n (length pits) ≡ true = grind (arith, nat_tests) in
-      ap (λ b. is_some (if b then Some n else None)) yes ∙ sym (ap (λ (o : Option Rank). is_some (option_map (λ (p : Rank). p.index) o)) (slice_get-get_or pits n (record { height = pos 0; index = 0 }) below)))
+      ap (λ b. is_some (if b then Some n else None)) yes ∙ sym (ap (λ (o : Option Rank). is_some (option_map (λ (p : Rank). p.index) o))
+      (slice_get-get_or pits n (record { height = pos 0; index = 0 }) below)))
   | inr not ↦ (let no : nat_lt n (length pits) ≡ false = grind (arith, nat_tests) in
       ap (λ b. is_some (if b then Some n else None)) no ∙ sym (ap (λ (o : Option Rank). is_some (option_map (λ (p : Rank). p.index) o)) (slice_get_past pits n (omega (arith, not)))))
 ]

@@ -175,7 +175,8 @@ module _ (m : Map) (side : SideName) (whole : IsMap m) (roots : List (Option ℕ
       let one : n + 1 ≡ suc n = omega arith in
       let below : n < length roots = subst (λ k. n < k) (sym regions.whole) (omega (arith, within)) in
       subst (λ k. all_of owner p pits (tally_below m roots k) ≡ tally_of m (owned_below m owner roots p k)) one
-      (ap (joined_of (is_owned p) (owned_by owner pits)) (map_same (tally_below m roots (n + 1)) (λ q. tally_after (names (get_or roots n None) q.index) (tally_below m roots n q) (edge_at m n)) pits (λ q. rooted_more m roots q n))
+      (ap (joined_of (is_owned p) (owned_by owner pits)) (map_same (tally_below m roots (n + 1))
+      (λ q. tally_after (names (get_or roots n None) q.index) (tally_below m roots n q) (edge_at m n)) pits (λ q. rooted_more m roots q n))
       ∙ point_more n (get_or roots n None) refl below (tally_below m roots n) (edge_at m n)
       ∙ ap (λ x. tally_after (owns m owner p (get_or roots n None)) x (edge_at m n)) (owned_below-is n (omega (arith, within)))
       ∙ sym (owned_more n))

@@ -80,7 +80,8 @@ tallies_have m side tallies are = record {
   roots = are.roots;
   regions = are.regions;
   are = ap (map points_in) are.are ∙ map-map points_in (region_tally m are.roots) (pit_ranks m are.roots)
-      ∙ sym (map_same (λ (pit : Rank). points_of are.roots pit.index) (λ (pit : Rank). (region_tally m are.roots pit).points) (pit_ranks m are.roots) (λ pit. points_rooted m are.roots pit are.regions.whole));
+      ∙ sym (map_same (λ (pit : Rank). points_of are.roots pit.index) (λ (pit : Rank). (region_tally m are.roots pit).points) (pit_ranks m are.roots)
+      (λ pit. points_rooted m are.roots pit are.regions.whole));
 }
 
 -- what is known of the kept pits and of the owners
@@ -125,7 +126,8 @@ module _ (m : Map) (side : SideName) (thousandths : ℕ) (whole : IsMap m) (step
 
     same_points : map points_in tallies ≡ map points_in (map (region_tally m have.roots) (pit_ranks m have.roots))
     same_points = have.are
-        ∙ map_same (λ (pit : Rank). points_of have.roots pit.index) (λ (pit : Rank). (region_tally m have.roots pit).points) (pit_ranks m have.roots) (λ pit. points_rooted m have.roots pit have.regions.whole)
+        ∙ map_same (λ (pit : Rank). points_of have.roots pit.index) (λ (pit : Rank). (region_tally m have.roots pit).points) (pit_ranks m have.roots)
+        (λ pit. points_rooted m have.roots pit have.regions.whole)
         ∙ sym (map-map points_in (region_tally m have.roots) (pit_ranks m have.roots))
 
     -- how many points a kept pit owns

@@ -44,13 +44,15 @@ module _ (side : SideName) (pits : List Rank) where
   plain x = record { a = pit_at pits x.a; b = pit_at pits x.b; at = x.at }
 
   pass_of_link-is : (x : Link) → HasPits pits x → pass_of_link (map low_of pits) x ≡ plain x
-  pass_of_link-is x inside = ap (λ (r : Rank). record { a = r; b = rank_at (map low_of pits) x.b; at = x.at }) (rank-is x.a inside.0) ∙ ap (λ (r : Rank). record { a = pit_at pits x.a; b = r; at = x.at }) (rank-is x.b inside.1)
+  pass_of_link-is x inside = ap (λ (r : Rank). record { a = r; b = rank_at (map low_of pits) x.b; at = x.at }) (rank-is x.a inside.0)
+      ∙ ap (λ (r : Rank). record { a = pit_at pits x.a; b = r; at = x.at }) (rank-is x.b inside.1)
 
   pass_of-is : (x : Link) → (plain x ≡ pass_of side pits x) ⊎ (plain x ≡ turned (pass_of side pits x))
-  pass_of-is x = elim (below_by side (pit_at pits x.a) (pit_at pits x.b)) as (λ below. (plain x ≡ (if below then plain x else turned (plain x))) ⊎ (plain x ≡ turned (if below then plain x else turned (plain x)))) [
-    | true ↦ inl refl
-    | false ↦ inr refl
-  ]
+  pass_of-is x = elim (below_by side (pit_at pits x.a) (pit_at pits x.b)) as (λ below. (plain x ≡ (if below then plain x else turned (plain x)))
+      ⊎ (plain x ≡ turned (if below then plain x else turned (plain x)))) [
+        | true ↦ inl refl
+        | false ↦ inr refl
+      ]
 
   module _ (xs : List Link) (inside : All (HasPits pits) xs) where
     alike : (x : Link) → Contains xs x → (pass_of_link (map low_of pits) x ≡ pass_of side pits x) ⊎ (pass_of_link (map low_of pits) x ≡ turned (pass_of side pits x))
@@ -66,4 +68,5 @@ module _ (side : SideName) (pits : List Rank) where
     )
 
     pub links-inside : All (HasEnds (length (map low_of pits))) xs
-    links-inside = (let long = length-map pits low_of in All-weaker (HasPits pits) (HasEnds (length (map low_of pits))) (λ x h. (let a = h.0 in let b = h.1 in (omega (arith, a, long), omega (arith, b, long)))) xs inside)
+    links-inside = (let long = length-map pits low_of in All-weaker (HasPits pits) (HasEnds (length (map low_of pits)))
+        (λ x h. (let a = h.0 in let b = h.1 in (omega (arith, a, long), omega (arith, b, long)))) xs inside)

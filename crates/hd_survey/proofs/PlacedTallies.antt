@@ -45,7 +45,8 @@ pub record ArePlacedBefore (count : ℕ) (places : List ℕ) (owners : List Owne
 
 -- one more pit
 pub placed_more : (count : ℕ) (places : List ℕ) (owners : List Owned) (tallies : List Tally) (k : ℕ) (old new : List Tally) (o : Owned) (t : Tally) → k < length owners → k < length tallies
-    → JoinsAt old (get_or places (get_or owners k o).owner.index 0) (get_or tallies k t) new → ArePlacedBefore count places owners tallies k old → ArePlacedBefore count places owners tallies (k + 1) new
+    → JoinsAt old (get_or places (get_or owners k o).owner.index 0) (get_or tallies k t) new → ArePlacedBefore count places owners tallies k old
+    → ArePlacedBefore count places owners tallies (k + 1) new
 placed_more count places owners tallies k old new o t inside within joins before = record {
   whole = joins.whole ∙ before.whole;
   each = λ i d below.

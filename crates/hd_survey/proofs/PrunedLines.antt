@@ -22,7 +22,8 @@ module _ (m : Map) (side : SideName) where
     line_inside line is =
         let reached = is.pairs.reached in
         let near = reached.1.near in
-        let pass : IsPoint m line.pass = subst (IsPoint m) (sym reached.2) (one_of_two (below_by side reached.0.from reached.0.to) reached.0.from reached.0.to (Near-from m reached.0.from reached.0.to near) (Near-to m reached.0.from reached.0.to near)) in
+        let pass : IsPoint m line.pass = subst (IsPoint m) (sym reached.2) (one_of_two (below_by side reached.0.from reached.0.to) reached.0.from reached.0.to
+        (Near-from m reached.0.from reached.0.to near) (Near-to m reached.0.from reached.0.to near)) in
         (point_inside m line.a (still.are_kept line.a is.first).point, point_inside m line.b (still.are_kept line.b is.second).point, point_inside m line.pass pass)
 
     pub lines_inside : (lines : List BorderLine) → AreBorderLines m side kept owner lines → All (IsLineOn m.size) lines

@@ -62,7 +62,8 @@ module _ (m : Map) (side : SideName) where
           into = subst (IsPit m side) (sym taken.into) (still.owners taken.root (root-is_pit m side taken.neighbour taken.root taken.across.beyond.root));
         }
 
-    still_after : (kept : List Rank) (owner : Rank → Rank) (x : Leaving) → ArePitsStill kept owner → IsStepOfPits x → ArePitsStill (without (below_by side) x.pit kept) (handed (below_by side) x.pit x.into owner)
+    still_after : (kept : List Rank) (owner : Rank → Rank) (x : Leaving) → ArePitsStill kept owner → IsStepOfPits x
+        → ArePitsStill (without (below_by side) x.pit kept) (handed (below_by side) x.pit x.into owner)
     still_after kept owner x still step = record {
       are_kept = λ p there. still.are_kept p (filtered (λ q. differ (below_by side) x.pit q) kept p there);
       owners = λ p pit. chosen (differ (below_by side) x.pit (owner p)) (owner p) x.into (still.owners p pit) step.into;

@@ -51,7 +51,8 @@ module _ (m : Map) (side : SideName) where
         inr (s.0, s.1, below_saddle-along saddle s.0 u.0 (s.1.least r.points u.0 r.path u.1) top)
 
     -- so the lows that are joined with it are the pits that are reached
-    pub reached-lows : (lows : List Low) (place : ℕ) → rank_at lows place ≡ p → (joined : List Bool) → AreJoinedLows m side lows place saddle joined → ArePits m side (ranks_of lows) → (pits : List Rank) → ArePits m side pits
+    pub reached-lows : (lows : List Low) (place : ℕ) → rank_at lows place ≡ p → (joined : List Bool) → AreJoinedLows m side lows place saddle joined
+        → ArePits m side (ranks_of lows) → (pits : List Rank) → ArePits m side pits
         → AreReachedPits m side saddle p pits joined
     reached-lows lows place at joined told are pits are' = subst (λ (ps : List Rank). AreReachedPits m side saddle p ps joined) (pits-unique m side (ranks_of lows) pits are are') (record {
       whole = told.whole ∙ sym count;

@@ -15,7 +15,8 @@ use Rattle.hd_survey.proofs.MapPits.{pits_inside, ranks_pits}
 pub sizes_inside : (m : Map) (side : SideName) (sizes : List RegionSize) → IsMap m → AreSizesByRoots m side sizes → All (λ size. size.pit.index < cell_count m.size) sizes
 sizes_inside m side sizes whole are =
     subst (λ (xs : List RegionSize). All (λ (size : RegionSize). size.pit.index < cell_count m.size) xs) (sym are.are)
-    (All-map (region_size are.roots) (λ (size : RegionSize). size.pit.index < cell_count m.size) (pit_ranks m are.roots) (pits_inside m side (pit_ranks m are.roots) (ranks_pits m side are.roots whole are.regions)))
+    (All-map (region_size are.roots) (λ (size : RegionSize). size.pit.index < cell_count m.size) (pit_ranks m are.roots)
+    (pits_inside m side (pit_ranks m are.roots) (ranks_pits m side are.roots whole are.regions)))
 
 -- the regions of the pits that are numbered are those of the map
 pub sizes_numbered : (m : Map) (side : SideName) (regions : Numbering) (sizes : List RegionSize) → IsMap m → AreNumbered m side regions

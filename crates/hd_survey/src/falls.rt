@@ -86,7 +86,8 @@ fn fall_at<S: Side, G: Heights, V: SideView<S>>(
 ) -> Option<(Rank, Rank)>
     requires view { V.map view.now ≡ G.map grid.now }
     requires regions { (roots : Items (Option ℕ)) × AreRegions (G.map grid.now) S.NAME roots }
-    requires each { (q : Rank) → Contains (ranks_of lower.now.items) q ↔ LowerNeighbour (G.map grid.now) S.NAME _saddle q }
+    requires each { (q : Rank) → Contains (ranks_of lower.now.items) q
+        ↔ LowerNeighbour (G.map grid.now) S.NAME _saddle q }
     requires in_order { AllPairs (λ a b. below_by S.NAME a b ≡ true) (ranks_of lower.now.items) }
     ensures { IsLowerNeighbourAt (G.map grid.now) S.NAME _saddle k result }
 {
@@ -119,7 +120,8 @@ impl Default for Lower {
 // The neighbours of a present point that are below it, in the order of the side.
 fn lower_neighbours<S: Side, G: Heights>(alloc: Global, grid: &G, point: Rank) -> SmallVec<Lower, 8>
     requires { IsPoint (G.map grid.now) point }
-    ensures each { (q : Rank) → Contains (ranks_of result.items) q ↔ LowerNeighbour (G.map grid.now) S.NAME point q }
+    ensures each { (q : Rank) → Contains (ranks_of result.items) q
+        ↔ LowerNeighbour (G.map grid.now) S.NAME point q }
     ensures in_order { AllPairs (λ a b. below_by S.NAME a b ≡ true) (ranks_of result.items) }
 {
     let mut lower = gather_lower::<S, G>(alloc, grid, point);
@@ -130,7 +132,8 @@ fn lower_neighbours<S: Side, G: Heights>(alloc: Global, grid: &G, point: Rank) -
 // The same in position order.
 fn gather_lower<S: Side, G: Heights>(alloc: Global, grid: &G, point: Rank) -> SmallVec<Lower, 8>
     requires { IsPoint (G.map grid.now) point }
-    ensures each { (q : Rank) → Contains (ranks_of result.items) q ↔ LowerNeighbour (G.map grid.now) S.NAME point q }
+    ensures each { (q : Rank) → Contains (ranks_of result.items) q
+        ↔ LowerNeighbour (G.map grid.now) S.NAME point q }
     ensures rise { AllPairs (λ a b. a.index < b.index) (ranks_of result.items) }
 {
     let at = position_of(grid.size(), point.index);

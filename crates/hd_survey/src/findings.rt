@@ -202,7 +202,8 @@ impl<S: Side> Findings<S> {
     ) -> Result<KeptPits, Memory>
         requires findings { AreFindings (G.map grid.now) S.NAME self.now }
         requires range { range ≡ range_of (present_heights (G.map grid.now)) }
-        ensures pits { IfOk result (λ kept. AreKeptPits (G.map grid.now) S.NAME percent.thousandths kept.pits) }
+        ensures pits { IfOk result (λ kept. AreKeptPits
+            (G.map grid.now) S.NAME percent.thousandths kept.pits) }
         ensures percent { IfOk result (λ kept. kept.percent ≡ percent) }
     {
         if let Some(merges) = &self.merges {
@@ -297,7 +298,8 @@ impl<S: Side> Findings<S> {
     ) -> Result<(), Memory>
         requires findings { AreFindings (G.map grid.now) S.NAME self.old }
         requires sizes { is_some self.old.sizes ≡ true }
-        requires pruned { IsPruned (G.map grid.now) S.NAME percent.thousandths pruned.steps pruned.kept pruned.owners }
+        requires pruned { IsPruned (G.map grid.now) S.NAME percent.thousandths pruned.steps
+            pruned.kept pruned.owners }
         ensures findings { AreFindings (G.map grid.now) S.NAME self.new }
         ensures found { OnOk result (WasPrunedAt percent.thousandths self.new.pruned) }
     {
@@ -446,7 +448,8 @@ impl<S: Side> Findings<S> {
         requires present { Present (G.map grid.now) at }
         ensures findings { AreFindings (G.map grid.now) S.NAME self.new }
         ensures present { IfOk result (Present (G.map grid.now)) }
-        ensures root { IfOk result (λ pit. IsRoot (G.map grid.now) S.NAME (rank (G.map grid.now) at) (rank (G.map grid.now) pit)) }
+        ensures root { IfOk result (λ pit. IsRoot (G.map grid.now) S.NAME (rank (G.map grid.now) at)
+            (rank (G.map grid.now) pit)) }
     {
         if let Some(regions) = &self.regions {
             return Ok(root_at::<S, G>(grid, regions, at));

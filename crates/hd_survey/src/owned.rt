@@ -23,9 +23,11 @@ pub fn owned_sizes(
     pruned: &Pruned,
     sizes: &[RegionSize],
 ) -> Result<List<RegionSize>, Memory>
-    requires { (m : Map) × (side : SideName) × (thousandths : ℕ) × IsMap m × IsPruned m side thousandths pruned.now.steps pruned.now.kept pruned.now.owners
+    requires { (m : Map) × (side : SideName) × (thousandths : ℕ) × IsMap m
+        × IsPruned m side thousandths pruned.now.steps pruned.now.kept pruned.now.owners
         × HavePoints m side (map (λ (size : RegionSize). size.points) sizes.now) × (count ≡ cell_count m.size) }
-    ensures { IfOk result (λ list. (all : Items Tally) × AreOwnedTallies pruned.now.kept pruned.now.owners (map plain_tally sizes.now) all
+    ensures { IfOk result (λ list. (all : Items Tally)
+        × AreOwnedTallies pruned.now.kept pruned.now.owners (map plain_tally sizes.now) all
         × AreSized pruned.now.kept all (length pruned.now.kept) list) }
 {
     let tallies = plain_tallies(alloc, sizes)?;
@@ -70,7 +72,8 @@ pub fn owned_tallies(
     pruned: &Pruned,
     tallies: &[Tally],
 ) -> Result<Vec<Tally>, Memory>
-    requires { (m : Map) × (side : SideName) × (thousandths : ℕ) × IsMap m × IsPruned m side thousandths pruned.now.steps pruned.now.kept pruned.now.owners
+    requires { (m : Map) × (side : SideName) × (thousandths : ℕ) × IsMap m
+        × IsPruned m side thousandths pruned.now.steps pruned.now.kept pruned.now.owners
         × HavePoints m side (map (λ (tally : Tally). tally.points) tallies.now) × (count ≡ cell_count m.size) }
     ensures { IfOk result (λ all. AreOwnedTallies pruned.now.kept pruned.now.owners tallies.now all.items) }
 {
@@ -104,7 +107,8 @@ fn place_tallies(
 ) -> Result<Vec<Tally>, Memory>
     requires long { length tallies.now ≡ length owners.now }
     requires inside { All (λ o. o.owner.index < length places.now) owners.now }
-    requires few { (i : ℕ) → i < count → (joined_of (is_placed places.now i) owners.now tallies.now).points < 2 ^ 32 }
+    requires few { (i : ℕ) → i < count → (joined_of
+        (is_placed places.now i) owners.now tallies.now).points < 2 ^ 32 }
     ensures { IfOk result (λ all. ArePlacedTallies count places.now owners.now tallies.now all.items) }
 {
     let mut all = no_tallies(alloc, count)?;
@@ -116,7 +120,8 @@ fn place_tallies(
 
 // Joins the tally of a place with another, where there is such a place.
 fn join_at(all: &mut Vec<Tally>, place: u32, tally: Tally)
-    requires { (i : ℕ) (d : Tally) → i < length all.old.items → nat_eq place i ≡ true → (slice_index_or all.old.items i d).points + tally.points < 2 ^ 32 }
+    requires { (i : ℕ) (d : Tally) → i < length all.old.items → nat_eq place i ≡ true
+        → (slice_index_or all.old.items i d).points + tally.points < 2 ^ 32 }
     ensures { JoinsAt all.old.items place tally all.new.items }
 {
     let place = place as usize;

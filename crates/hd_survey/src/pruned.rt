@@ -40,7 +40,8 @@ pub fn pruned_side<S: Side, G: Heights>(
     percent: Percent,
 ) -> Result<Pruned, Memory>
     requires { AreFindings (G.map grid.now) S.NAME findings.old }
-    ensures pruned { IfOk result (λ pruned. IsPruned (G.map grid.now) S.NAME percent.thousandths pruned.steps pruned.kept pruned.owners) }
+    ensures pruned { IfOk result (λ pruned. IsPruned
+        (G.map grid.now) S.NAME percent.thousandths pruned.steps pruned.kept pruned.owners) }
     ensures sizes { OnOk result (is_some findings.new.sizes ≡ true) }
     ensures findings { AreFindings (G.map grid.now) S.NAME findings.new }
 {
@@ -61,7 +62,8 @@ pub fn pruned_side_by<S: Side, G: Heights, V: SideView<S>>(
     requires view { V.map view.now ≡ G.map grid.now }
     requires findings { AreFindings (G.map grid.now) S.NAME findings.old }
     requires range { range ≡ range_of (present_heights (G.map grid.now)) }
-    ensures pruned { IfOk result (λ pruned. IsPruned (G.map grid.now) S.NAME percent.thousandths pruned.steps pruned.kept pruned.owners) }
+    ensures pruned { IfOk result (λ pruned. IsPruned
+        (G.map grid.now) S.NAME percent.thousandths pruned.steps pruned.kept pruned.owners) }
     ensures sizes { OnOk result (is_some findings.new.sizes ≡ true) }
     ensures findings { AreFindings (G.map grid.now) S.NAME findings.new }
 {
@@ -79,7 +81,8 @@ pub fn regions_left<S: Side, G: Heights>(
     sizes: &[RegionSize],
     percent: Percent,
 ) -> Result<PrunedRegions, Memory>
-    requires pruned { IsPruned (G.map grid.now) S.NAME percent.thousandths pruned.steps pruned.kept pruned.owners }
+    requires pruned { IsPruned (G.map grid.now) S.NAME percent.thousandths pruned.steps pruned.kept
+        pruned.owners }
     requires sizes { AreSizesByRoots (G.map grid.now) S.NAME sizes.now }
     ensures percent { IfOk result (λ left. left.percent ≡ percent) }
     ensures left { IfOk result (TellsPruning (G.map grid.now) S.NAME percent.thousandths) }
@@ -105,7 +108,8 @@ pub fn pruned_pits<S: Side, G: Heights, V: SideView<S>>(
     requires view { V.map view.now ≡ G.map grid.now }
     requires merges { ArePitMerges (G.map grid.now) S.NAME merges.now }
     requires range { range ≡ range_of (present_heights (G.map grid.now)) }
-    ensures { IfOk result (λ pruned. IsPruned (G.map grid.now) S.NAME percent.thousandths pruned.steps pruned.kept pruned.owners) }
+    ensures { IfOk result (λ pruned. IsPruned
+        (G.map grid.now) S.NAME percent.thousandths pruned.steps pruned.kept pruned.owners) }
 {
     let falls = Falls::<'_, S, G, V>::new(alloc, grid, view);
     prune_by_merges::<S, Falls<'_, S, G, V>>(

@@ -32,7 +32,8 @@ pub fn into_sizes(alloc: Global, regions: Regions) -> Result<List<RegionSize>, M
 // The regions of these pits, with these numbers of points.
 fn size_pits(alloc: Global, pits: &[Rank], points: &[u32]) -> Result<List<RegionSize>, Memory>
     requires { length points.now ≡ length pits.now }
-    ensures { (roots : Items (Option ℕ)) → AreCountsOf roots pits.now points.now → IfOk result (λ sizes. sizes ≡ map (region_size roots) pits.now) }
+    ensures { (roots : Items (Option ℕ)) → AreCountsOf roots pits.now points.now
+        → IfOk result (λ sizes. sizes ≡ map (region_size roots) pits.now) }
 {
     let mut sizes = List::with_capacity(alloc, pits.len())?;
     'pits: for (number, pit) in pits.iter().enumerate() {

@@ -20,7 +20,8 @@ pub fn region_tallies<S: Side, G: Heights>(
     regions: &Regions,
 ) -> Result<List<Tally>, Memory>
     requires { AreNumbered (G.map grid.now) S.NAME regions.now }
-    ensures { IfOk result (λ tallies. tallies ≡ map (region_tally (G.map grid.now) (roots_of regions.now)) regions.now.pits) }
+    ensures { IfOk result (λ tallies. tallies
+        ≡ map (region_tally (G.map grid.now) (roots_of regions.now)) regions.now.pits) }
 {
     let tallies = tally_points(alloc, grid, regions)?;
     Ok(List::from_vec(tallies))
@@ -35,7 +36,8 @@ fn tally_points<G: Heights>(
 ) -> Result<Vec<Tally>, Memory>
     requires whole { length regions.now.numbers ≡ cell_count (G.map grid.now).size }
     requires present { HaveRoots (G.map grid.now) (roots_of regions.now) }
-    ensures { IfOk result (λ tallies. AreTallies (G.map grid.now) regions.now (cell_count (G.map grid.now).size) tallies.items) }
+    ensures { IfOk result (λ tallies. AreTallies (G.map grid.now) regions.now
+        (cell_count (G.map grid.now).size) tallies.items) }
 {
     let mut tallies = no_tallies(alloc, regions.pits().len())?;
     let size = grid.size();

@@ -107,7 +107,8 @@ fn value_among<G: Heights>(
     requires presence { IsPresence (present_heights (G.map grid.now)) presence }
     ensures survey { IsSurvey (G.map grid.now) survey.new }
     ensures is { IfOk result (IsNotationValue (G.map grid.now) notation.now) }
-    ensures small { notation.now.attribute ≡ Lpvh → notation.now.statistic ≡ Mean → IfOk result (λ value. ForSome value IsSmall) }
+    ensures small { notation.now.attribute ≡ Lpvh → notation.now.statistic ≡ Mean
+        → IfOk result (λ value. ForSome value IsSmall) }
 {
     mean_height_is_small();
     heights_alone_serve();

@@ -51,12 +51,14 @@ low-from (x ∷ xs) r e = elim (either (same_rank x.rank r) (has_low xs r) e) [
 
 lacking : (ys : List Low) (x : Low) → lacks_index ys x ≡ true → (k : ℕ) (d : Low) → k < length ys → x.rank.index ≢ (get_or ys k d).rank.index
 lacking [] x e k d inside = absurd (omega arith)
-lacking (y ∷ ys) x e zero d inside = λ same. (let f = first (not (nat_eq x.rank.index y.rank.index)) (lacks_index ys x) e in let g : nat_eq x.rank.index y.rank.index ≡ false = is_false (nat_eq x.rank.index y.rank.index) f in absurd (grind (arith, nat_tests)))
+lacking (y ∷ ys) x e zero d inside = λ same. (let f = first (not (nat_eq x.rank.index y.rank.index)) (lacks_index ys x) e in let g : nat_eq x.rank.index y.rank.index
+    ≡ false = is_false (nat_eq x.rank.index y.rank.index) f in absurd (grind (arith, nat_tests)))
 lacking (y ∷ ys) x e (suc k) d inside = lacking ys x (second (not (nat_eq x.rank.index y.rank.index)) (lacks_index ys x) e) k d (omega arith)
 
 different-from : (lows : List Low) → are_different lows ≡ true → AllPairs (λ x y. x.rank.index ≢ y.rank.index) lows
 different-from [] e = λ i j d less inside. absurd (omega arith)
-different-from (x ∷ xs) e = AllPairs-cons (λ (x : Low) (y : Low). x.rank.index ≢ y.rank.index) x xs (lacking xs x (first (lacks_index xs x) (are_different xs) e)) (different-from xs (second (lacks_index xs x) (are_different xs) e))
+different-from (x ∷ xs) e = AllPairs-cons (λ (x : Low) (y : Low). x.rank.index ≢ y.rank.index) x xs (lacking xs x (first (lacks_index xs x) (are_different xs) e))
+    (different-from xs (second (lacks_index xs x) (are_different xs) e))
 
 module _ (below : Rank → Rank → Bool) (lows : List Low) where
   pass-from : (p : Pass) → is_pass below lows p ≡ true → IsPassOf below lows p
@@ -75,7 +77,8 @@ module _ (below : Rank → Rank → Bool) (lows : List Low) where
 
   passes-from : (passes : List Pass) → are_passes below lows passes ≡ true → All (IsPassOf below lows) passes
   passes-from [] e = All-nil (IsPassOf below lows)
-  passes-from (p ∷ ps) e = All-cons (IsPassOf below lows) p ps (pass-from p (first (is_pass below lows p) (are_passes below lows ps) e)) (passes-from ps (second (is_pass below lows p) (are_passes below lows ps) e))
+  passes-from (p ∷ ps) e = All-cons (IsPassOf below lows) p ps (pass-from p (first (is_pass below lows p) (are_passes below lows ps) e))
+      (passes-from ps (second (is_pass below lows p) (are_passes below lows ps) e))
 
   pub graph-from : (passes : List Pass) → is_graph below lows passes ≡ true → IsGraph below lows passes
   graph-from passes e =

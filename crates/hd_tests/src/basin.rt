@@ -73,7 +73,8 @@ fn surface_named(rt: &(impl Abort + AllocGlobal), name: &str) -> Surface {
 
 // What a pool tells, which is what another pool tells that has seen all at once.
 fn compared<S: Side>(rt: &(impl Abort + AllocGlobal), watched: &Watched, pool: &Basins<S>) -> String
-    requires following { IsFollowing (map_of watched.now.tiles.grid) S.NAME watched.now.tiles.tiling.side watched.now.tiles.stamps.items pool.now }
+    requires following { IsFollowing (map_of watched.now.tiles.grid) S.NAME
+        watched.now.tiles.tiling.side watched.now.tiles.stamps.items pool.now }
     requires pool { HasMap S.NAME pool.now }
 {
     let surface = watched.tiles.surface();
@@ -86,8 +87,12 @@ fn compared<S: Side>(rt: &(impl Abort + AllocGlobal), watched: &Watched, pool: &
 
 // Brings a pool up to its surface, and adds the sum of what it tells.
 fn push_sum<S: Side>(rt: &(impl Abort + AllocGlobal), followed: &mut Followed<S>, sums: &mut String)
-    requires { IsFollowing (map_of followed.old.watched.tiles.grid) S.NAME followed.old.watched.tiles.tiling.side followed.old.watched.tiles.stamps.items followed.old.pool }
-    ensures { IsFollowing (map_of followed.new.watched.tiles.grid) S.NAME followed.new.watched.tiles.tiling.side followed.new.watched.tiles.stamps.items followed.new.pool }
+    requires { IsFollowing (map_of followed.old.watched.tiles.grid) S.NAME
+        followed.old.watched.tiles.tiling.side followed.old.watched.tiles.stamps.items
+        followed.old.pool }
+    ensures { IsFollowing (map_of followed.new.watched.tiles.grid) S.NAME
+        followed.new.watched.tiles.tiling.side followed.new.watched.tiles.stamps.items
+        followed.new.pool }
 {
     followed.refresh(rt);
     let text = compared(rt, &followed.watched, &followed.pool);
@@ -100,8 +105,12 @@ fn push_sums<S: Side>(
     followed: &mut Followed<S>,
     sums: &mut String,
 )
-    requires { IsFollowing (map_of followed.old.watched.tiles.grid) S.NAME followed.old.watched.tiles.tiling.side followed.old.watched.tiles.stamps.items followed.old.pool }
-    ensures { IsFollowing (map_of followed.new.watched.tiles.grid) S.NAME followed.new.watched.tiles.tiling.side followed.new.watched.tiles.stamps.items followed.new.pool }
+    requires { IsFollowing (map_of followed.old.watched.tiles.grid) S.NAME
+        followed.old.watched.tiles.tiling.side followed.old.watched.tiles.stamps.items
+        followed.old.pool }
+    ensures { IsFollowing (map_of followed.new.watched.tiles.grid) S.NAME
+        followed.new.watched.tiles.tiling.side followed.new.watched.tiles.stamps.items
+        followed.new.pool }
 {
     let size = followed.watched.tiles.size();
     let first = Pos { x: 0, y: 0 };
@@ -217,8 +226,12 @@ fn push_refresh<S: Side>(
     followed: &mut Followed<S>,
     text: &mut String,
 )
-    requires { IsFollowing (map_of followed.old.watched.tiles.grid) S.NAME followed.old.watched.tiles.tiling.side followed.old.watched.tiles.stamps.items followed.old.pool }
-    ensures { IsFollowing (map_of followed.new.watched.tiles.grid) S.NAME followed.new.watched.tiles.tiling.side followed.new.watched.tiles.stamps.items followed.new.pool }
+    requires { IsFollowing (map_of followed.old.watched.tiles.grid) S.NAME
+        followed.old.watched.tiles.tiling.side followed.old.watched.tiles.stamps.items
+        followed.old.pool }
+    ensures { IsFollowing (map_of followed.new.watched.tiles.grid) S.NAME
+        followed.new.watched.tiles.tiling.side followed.new.watched.tiles.stamps.items
+        followed.new.pool }
 {
     let looks = followed.refresh(rt);
     write!(text, " {looks}").expect(rt, "memory");

@@ -76,7 +76,8 @@ impl<S: Side> Followed<S> {
     // The pool that has seen nothing of this surface in tiles of this side.
     pub(crate) fn new(rt: &(impl Abort + AllocGlobal), surface: Surface, side: u32) -> Followed<S>
         requires { IsTileSide side }
-        ensures { IsFollowing (map_of result.watched.tiles.grid) S.NAME result.watched.tiles.tiling.side result.watched.tiles.stamps.items result.pool }
+        ensures { IsFollowing (map_of result.watched.tiles.grid) S.NAME
+            result.watched.tiles.tiling.side result.watched.tiles.stamps.items result.pool }
     {
         let size = surface.size();
         let tiles = Tiles::from_surface(rt.alloc(), surface, side).expect(rt, "memory");
@@ -90,8 +91,10 @@ impl<S: Side> Followed<S> {
 
     // Brings the pool up to the surface, and tells how many looks that took.
     pub(crate) fn refresh(&mut self, rt: &impl Abort) -> u32
-        requires { IsFollowing (map_of self.old.watched.tiles.grid) S.NAME self.old.watched.tiles.tiling.side self.old.watched.tiles.stamps.items self.old.pool }
-        ensures following { IsFollowing (map_of self.new.watched.tiles.grid) S.NAME self.new.watched.tiles.tiling.side self.new.watched.tiles.stamps.items self.new.pool }
+        requires { IsFollowing (map_of self.old.watched.tiles.grid) S.NAME
+            self.old.watched.tiles.tiling.side self.old.watched.tiles.stamps.items self.old.pool }
+        ensures following { IsFollowing (map_of self.new.watched.tiles.grid) S.NAME
+            self.new.watched.tiles.tiling.side self.new.watched.tiles.stamps.items self.new.pool }
         ensures pool { HasMap S.NAME self.new.pool }
     {
         self.watched.looks.set(0);
@@ -101,8 +104,10 @@ impl<S: Side> Followed<S> {
 
     // Sets the cell at a position.
     pub(crate) fn set_cell(&mut self, rt: &impl Abort, at: Pos, cell: Cell)
-        requires { IsFollowing (map_of self.old.watched.tiles.grid) S.NAME self.old.watched.tiles.tiling.side self.old.watched.tiles.stamps.items self.old.pool }
-        ensures { IsFollowing (map_of self.new.watched.tiles.grid) S.NAME self.new.watched.tiles.tiling.side self.new.watched.tiles.stamps.items self.new.pool }
+        requires { IsFollowing (map_of self.old.watched.tiles.grid) S.NAME
+            self.old.watched.tiles.tiling.side self.old.watched.tiles.stamps.items self.old.pool }
+        ensures { IsFollowing (map_of self.new.watched.tiles.grid) S.NAME
+            self.new.watched.tiles.tiling.side self.new.watched.tiles.stamps.items self.new.pool }
     {
         assert!(rt; self.watched.tiles.changes() < 1_000);
         self.watched
@@ -114,8 +119,10 @@ impl<S: Side> Followed<S> {
 
     // Sets or takes the mask at a position.
     pub(crate) fn set_mask(&mut self, rt: &impl Abort, at: Pos, masked: bool)
-        requires { IsFollowing (map_of self.old.watched.tiles.grid) S.NAME self.old.watched.tiles.tiling.side self.old.watched.tiles.stamps.items self.old.pool }
-        ensures { IsFollowing (map_of self.new.watched.tiles.grid) S.NAME self.new.watched.tiles.tiling.side self.new.watched.tiles.stamps.items self.new.pool }
+        requires { IsFollowing (map_of self.old.watched.tiles.grid) S.NAME
+            self.old.watched.tiles.tiling.side self.old.watched.tiles.stamps.items self.old.pool }
+        ensures { IsFollowing (map_of self.new.watched.tiles.grid) S.NAME
+            self.new.watched.tiles.tiling.side self.new.watched.tiles.stamps.items self.new.pool }
     {
         assert!(rt; self.watched.tiles.changes() < 1_000);
         self.watched
@@ -127,8 +134,10 @@ impl<S: Side> Followed<S> {
 
     // Sets which points are neighbours.
     pub(crate) fn set_adjacency(&mut self, rt: &impl Abort, adjacency: Adjacency)
-        requires { IsFollowing (map_of self.old.watched.tiles.grid) S.NAME self.old.watched.tiles.tiling.side self.old.watched.tiles.stamps.items self.old.pool }
-        ensures { IsFollowing (map_of self.new.watched.tiles.grid) S.NAME self.new.watched.tiles.tiling.side self.new.watched.tiles.stamps.items self.new.pool }
+        requires { IsFollowing (map_of self.old.watched.tiles.grid) S.NAME
+            self.old.watched.tiles.tiling.side self.old.watched.tiles.stamps.items self.old.pool }
+        ensures { IsFollowing (map_of self.new.watched.tiles.grid) S.NAME
+            self.new.watched.tiles.tiling.side self.new.watched.tiles.stamps.items self.new.pool }
     {
         assert!(rt; self.watched.tiles.changes() < 1_000);
         self.watched.tiles.set_adjacency(adjacency);
@@ -138,7 +147,8 @@ impl<S: Side> Followed<S> {
 
 // Another pool that has seen all of the same tiles.
 pub(crate) fn pool_anew<S: Side>(rt: &(impl Abort + AllocGlobal), watched: &Watched) -> Basins<S>
-    ensures following { IsFollowing (map_of watched.now.tiles.grid) S.NAME watched.now.tiles.tiling.side watched.now.tiles.stamps.items result }
+    ensures following { IsFollowing (map_of watched.now.tiles.grid) S.NAME
+        watched.now.tiles.tiling.side watched.now.tiles.stamps.items result }
     ensures pool { HasMap S.NAME result }
 {
     let tiling = watched.tiles.tiling();
@@ -157,8 +167,10 @@ fn bring_up<S: Side, L: Ledger>(
     requires name { blank.name ≡ L.name }
     requires parts { blank.parts ≡ L.parts }
     requires one { blank.parts ≡ 1 }
-    requires following { IsFollowing (map_of watched.now.tiles.grid) S.NAME watched.now.tiles.tiling.side watched.now.tiles.stamps.items pool.old }
-    ensures following { IsFollowing (map_of watched.now.tiles.grid) S.NAME watched.now.tiles.tiling.side watched.now.tiles.stamps.items pool.new }
+    requires following { IsFollowing (map_of watched.now.tiles.grid) S.NAME
+        watched.now.tiles.tiling.side watched.now.tiles.stamps.items pool.old }
+    ensures following { IsFollowing (map_of watched.now.tiles.grid) S.NAME
+        watched.now.tiles.tiling.side watched.now.tiles.stamps.items pool.new }
     ensures pool { HasMap S.NAME pool.new }
 {
     let mut looks: Steps<L> = Steps::new(blank);

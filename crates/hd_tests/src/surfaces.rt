@@ -14,7 +14,15 @@ use std::alloc::Global;
 /// data type, and for want of memory.
 pub fn surface_of(alloc: Global, size: Size, data_type: DataType, cells: &[Cell]) -> Option<Surface>
     requires { IsSize size }
-    ensures { IfSome result (λ surface. map_of surface ≡ record { size = size; data_type = data_type; cells = cells.now; masks = replicate (cell_count size) false; adjacency = Eight }) }
+    ensures { IfSome result (λ surface. map_of surface
+        ≡ record {
+          size = size;
+          data_type = data_type;
+          cells = cells.now;
+          masks = replicate
+              (cell_count size) false;
+          adjacency = Eight;
+        }) }
 {
     if !is_narrow(data_type) {
         return None;

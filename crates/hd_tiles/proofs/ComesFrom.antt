@@ -120,7 +120,8 @@ module _ (old new : Map) (t count : ℕ) (before after : List ℕ) (low : AreUpT
           other (sym there ∙ ap (λ (m : Map). cell_at m p) (sym is ∙ e))
 
       pub ComesFrom-cell : ComesFrom old t before new t after
-      ComesFrom-cell = ComesFrom-changed Here count before after low here old new t (ap (λ (m : Map). m.size) (sym is)) (λ tile far. subst (λ (m : Map). Agree old m t tile) (sym is) (with_cell-leaves old t tile p inside far c))
+      ComesFrom-cell = ComesFrom-changed Here count before after low here old new t (ap (λ (m : Map). m.size) (sym is))
+          (λ tile far. subst (λ (m : Map). Agree old m t tile) (sym is) (with_cell-leaves old t tile p inside far c))
 
       pub TouchesRound-cell : TouchesRound t p old new count (count + 1) before after
       TouchesRound-cell = Touches-changed Here count before after low here old new cell_differs
@@ -132,7 +133,8 @@ module _ (old new : Map) (t count : ℕ) (before after : List ℕ) (low : AreUpT
           other (sym there ∙ ap (λ (m : Map). mask_at m p) (sym is ∙ e))
 
       pub ComesFrom-mask : ComesFrom old t before new t after
-      ComesFrom-mask = ComesFrom-changed Here count before after low here old new t (ap (λ (m : Map). m.size) (sym is)) (λ tile far. subst (λ (m : Map). Agree old m t tile) (sym is) (with_mask-leaves old t tile p inside far b))
+      ComesFrom-mask = ComesFrom-changed Here count before after low here old new t (ap (λ (m : Map). m.size) (sym is))
+          (λ tile far. subst (λ (m : Map). Agree old m t tile) (sym is) (with_mask-leaves old t tile p inside far b))
 
       pub TouchesRound-mask : TouchesRound t p old new count (count + 1) before after
       TouchesRound-mask = Touches-changed Here count before after low here old new mask_differs
@@ -141,7 +143,8 @@ module _ (old new : Map) (t count : ℕ) (before after : List ℕ) (low : AreUpT
       (stamped : AreStamped (IsRoundChange old y heights t 0 points) (count + 1) before after) where
     -- the new cell at a column of the profile
     cell_new : (x : ℕ) → InGrid old.size (record { x = x; y = y }) → cell_at new (record { x = x; y = y }) ≡ cell_with (get_or heights x None) (cell_at old (record { x = x; y = y }))
-    cell_new x inside = ap (λ (m : Map). cell_at m (record { x = x; y = y })) is ∙ cell_at_heights old y heights (record { x = x; y = y }) inside ∙ cell_in_profile old y heights (record { x = x; y = y }) refl
+    cell_new x inside = ap (λ (m : Map). cell_at m (record { x = x; y = y })) is ∙ cell_at_heights old y heights (record { x = x; y = y }) inside
+        ∙ cell_in_profile old y heights (record { x = x; y = y }) refl
 
     -- the cells in a tile that is not touched stay
     cell_stays : (tile : ℕ) → (IsRoundChange old y heights t 0 points tile → ⊥) → (q : Pos) → InGrid old.size q → IsRound old.size t tile q → cell_with_heights old y heights q ≡ cell_at old q
@@ -169,7 +172,8 @@ module _ (old new : Map) (t count : ℕ) (before after : List ℕ) (low : AreUpT
 
     pub ComesFrom-profile : ComesFrom old t before new t after
     ComesFrom-profile =
-        ComesFrom-changed (IsRoundChange old y heights t 0 points) count before after low stamped old new t (ap (λ (m : Map). m.size) (sym is)) (λ tile far. subst (λ (m : Map). Agree old m t tile) (sym is) (profile_leaves tile far))
+        ComesFrom-changed (IsRoundChange old y heights t 0 points) count before after low stamped old new t (ap (λ (m : Map). m.size) (sym is))
+        (λ tile far. subst (λ (m : Map). Agree old m t tile) (sym is) (profile_leaves tile far))
 
     abbrev AtProfile : ℕ → Type 0
     AtProfile tile = (p : Pos) × InGrid old.size p × (p.y ≡ y) × (cell_at new p ≢ cell_at old p) × IsRound old.size t tile p
@@ -201,7 +205,8 @@ module _ (old new : Map) (t count : ℕ) (before after : List ℕ) (low : AreUpT
 
       pub TouchesProfile-profile : SomeChanges old y heights points → TouchesProfile t y old new count (count + 1) before after
       TouchesProfile-profile some =
-          Touches-changed AtProfile count before after low (AreStamped-as (count + 1) (IsRoundChange old y heights t 0 points) before after stamped AtProfile (λ tile within. from_profile tile) at_profile) old new (SomeChanges-differs some)
+          Touches-changed AtProfile count before after low (AreStamped-as (count + 1) (IsRoundChange old y heights t 0 points) before after stamped AtProfile
+          (λ tile within. from_profile tile) at_profile) old new (SomeChanges-differs some)
 
   module _ (stamped : AreStamped (λ tile. Unit {0}) (count + 1) before after) (a : Adjacency) (is : new ≡ under a old) (other : a ≡ old.adjacency → ⊥) where
     setting_differs : new ≡ old → ⊥

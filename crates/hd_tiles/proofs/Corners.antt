@@ -46,20 +46,26 @@ module _ (s : Size) (t : ℕ) (p : Pos) (wide : 8 ≤ t) (inside : InGrid s p) w
 
   -- each corner holds one of the positions
   pub IsRound-top_left : IsRound s t (corner (before p.y) (before p.x)) p
-  IsRound-top_left = round (record { x = p.x - 1; y = p.y - 1 }) (record { column = omega (arith, inside.column); profile = omega (arith, inside.profile) }) (omega arith) (omega arith) (omega arith) (omega arith)
+  IsRound-top_left = round (record { x = p.x - 1; y = p.y - 1 }) (record { column = omega (arith, inside.column); profile = omega (arith, inside.profile) }) (omega arith)
+      (omega arith) (omega arith) (omega arith)
 
   pub IsRound-top_right : IsRound s t (corner (before p.y) (after p.x s.points)) p
-  IsRound-top_right = round (record { x = min (p.x + 1) (s.points - 1); y = p.y - 1 }) (record { column = omega (arith, inside.column); profile = omega (arith, inside.profile) }) (omega arith) (omega (arith, inside.column)) (omega arith) (omega arith)
+  IsRound-top_right = round (record { x = min (p.x + 1) (s.points - 1); y = p.y - 1 }) (record { column = omega (arith, inside.column); profile = omega (arith, inside.profile) })
+      (omega arith) (omega (arith, inside.column)) (omega arith) (omega arith)
 
   pub IsRound-bottom_left : IsRound s t (corner (after p.y s.profiles) (before p.x)) p
-  IsRound-bottom_left = round (record { x = p.x - 1; y = min (p.y + 1) (s.profiles - 1) }) (record { column = omega (arith, inside.column); profile = omega (arith, inside.profile) }) (omega arith) (omega arith) (omega arith) (omega (arith, inside.profile))
+  IsRound-bottom_left = round (record { x = p.x - 1; y = min (p.y + 1) (s.profiles - 1) })
+      (record { column = omega (arith, inside.column); profile = omega (arith, inside.profile) }) (omega arith) (omega arith) (omega arith) (omega (arith, inside.profile))
 
   pub IsRound-bottom_right : IsRound s t (corner (after p.y s.profiles) (after p.x s.points)) p
-  IsRound-bottom_right = round (record { x = min (p.x + 1) (s.points - 1); y = min (p.y + 1) (s.profiles - 1) }) (record { column = omega (arith, inside.column); profile = omega (arith, inside.profile) }) (omega arith) (omega (arith, inside.column)) (omega arith) (omega (arith, inside.profile))
+  IsRound-bottom_right = round (record { x = min (p.x + 1) (s.points - 1); y = min (p.y + 1) (s.profiles - 1) })
+      (record { column = omega (arith, inside.column); profile = omega (arith, inside.profile) }) (omega arith) (omega (arith, inside.column)) (omega arith)
+      (omega (arith, inside.profile))
 
   -- a tile is at one of the four corners
   abbrev pub AtCorner : ℕ → Type 0
-  AtCorner tile = ((((⊥ ⊎ (tile ≡ corner (before p.y) (before p.x))) ⊎ (tile ≡ corner (before p.y) (after p.x s.points))) ⊎ (tile ≡ corner (after p.y s.profiles) (before p.x))) ⊎ (tile ≡ corner (after p.y s.profiles) (after p.x s.points)))
+  AtCorner tile = ((((⊥ ⊎ (tile ≡ corner (before p.y) (before p.x))) ⊎ (tile ≡ corner (before p.y) (after p.x s.points))) ⊎ (tile ≡ corner (after p.y s.profiles) (before p.x)))
+      ⊎ (tile ≡ corner (after p.y s.profiles) (after p.x s.points)))
 
   at_row : (tile row column : ℕ) → tile ≡ corner row column → (row ≡ before p.y) ⊎ (row ≡ after p.y s.profiles) → (column ≡ before p.x) ⊎ (column ≡ after p.x s.points) → AtCorner tile
   at_row tile row column e (inl up) (inl left) = inl (inl (inl (inr (e ∙ ap (λ (k : ℕ). corner k column) up ∙ ap (corner (before p.y)) left))))

@@ -25,7 +25,8 @@ round_of_ends s t k tile y first x last from after before below inside round =
         | inr right ↦ inr (let same : x ≡ last = omega (arith, right, near.0, near.1, before, below) in subst (λ (j : ℕ). IsRound s t tile (record { x = j; y = y })) same round)
         | inl here ↦ inl (
             let parts : first / t ≡ q.x / t =
-            part-is first k t (first - k * t) (omega (arith, from, after, before, below)) (omega (arith, from)) ∙ sym (part-is q.x k t (q.x - k * t) (omega (arith, not_left, here)) (omega (arith, not_left))) in
+            part-is first k t (first - k * t) (omega (arith, from, after, before, below)) (omega (arith, from))
+            ∙ sym (part-is q.x k t (q.x - k * t) (omega (arith, not_left, here)) (omega (arith, not_left))) in
             record {
               from = record { x = first; y = q.y };
               in_grid = record { column = omega (arith, after, before, inside); profile = round.in_grid.profile };
@@ -64,15 +65,24 @@ module _ (m : Map) (y : ℕ) (heights : List (Option ℤ)) (t : ℕ) where
 
     from_ends : (tile : ℕ) → Here first tile ⊎ Here last tile → Round (k * t) to tile
     from_ends tile (inl here) = record { column = first; not_before = is_first.not_before; below = is_first.below; changes = is_first.changes; round = here }
-    from_ends tile (inr here) = record { column = last; not_before = (let low = is_first.not_before in let more = is_last.not_before in omega (arith, low, more)); below = is_last.below; changes = is_last.changes; round = here }
+    from_ends tile (inr here) = record {
+      column = last;
+      not_before = (let low = is_first.not_before in let more = is_last.not_before in omega
+          (arith, low, more));
+      below = is_last.below;
+      changes = is_last.changes;
+      round = here;
+    }
 
     -- stamped one after the other
     pub AreStamped-part : (stamp : ℕ) (xs ys zs : List ℕ) → AreStamped (Here first) stamp xs ys → AreStamped (Here last) stamp ys zs → AreStamped (Round (k * t) to) stamp xs zs
     AreStamped-part stamp xs ys zs one other =
-        AreStamped-as stamp (λ tile. Here first tile ⊎ Here last tile) xs zs (AreStamped-onward stamp (Here first) (Here last) xs ys zs one other) (Round (k * t) to) (λ tile within. at_ends tile) from_ends
+        AreStamped-as stamp (λ tile. Here first tile ⊎ Here last tile) xs zs (AreStamped-onward stamp (Here first) (Here last) xs ys zs one other) (Round (k * t) to)
+        (λ tile within. at_ends tile) from_ends
 
   -- the tiles of the columns before, and those of a part, are those of both
-  pub AreStamped-parts : (middle to stamp : ℕ) (xs ys zs : List ℕ) → middle ≤ to → AreStamped (Round 0 middle) stamp xs ys → AreStamped (Round middle to) stamp ys zs → AreStamped (Round 0 to) stamp xs zs
+  pub AreStamped-parts : (middle to stamp : ℕ) (xs ys zs : List ℕ) → middle ≤ to → AreStamped (Round 0 middle) stamp xs ys → AreStamped (Round middle to) stamp ys zs
+      → AreStamped (Round 0 to) stamp xs zs
   AreStamped-parts middle to stamp xs ys zs up before part =
       AreStamped-as stamp (λ tile. Round 0 middle tile ⊎ Round middle to tile) xs zs (AreStamped-onward stamp (Round 0 middle) (Round middle to) xs ys zs before part) (Round 0 to)
       (λ tile within round. elim (cases_lt round.column middle) [
@@ -89,8 +99,10 @@ module _ (m : Map) (y : ℕ) (heights : List (Option ℤ)) (t : ℕ) where
   AllStay-all middle to before part = λ x from below. elim (cases_lt x middle) [ inl early ↦ before x from early | inr late ↦ part x late below ]
 
   -- the tiles round the first and the last point of a part, as they are found
-  pub AreStamped-ends : (s : Size) (k from to first last : ℕ) → s ≡ m.size → from ≡ k * t → to ≡ min s.points (k * t + t) → IsFirstChange m y heights from to first → IsLastChange m y heights first to last
-      → (stamp : ℕ) (xs ys zs : List ℕ) → AreStamped (λ tile. IsRound s t tile (record { x = first; y = y })) stamp xs ys → AreStamped (λ tile. IsRound s t tile (record { x = last; y = y })) stamp ys zs
+  pub AreStamped-ends : (s : Size) (k from to first last : ℕ) → s ≡ m.size → from ≡ k * t → to ≡ min s.points (k * t + t) → IsFirstChange m y heights from to first
+      → IsLastChange m y heights first to last
+      → (stamp : ℕ) (xs ys zs : List ℕ) → AreStamped (λ tile. IsRound s t tile (record { x = first; y = y })) stamp xs ys
+      → AreStamped (λ tile. IsRound s t tile (record { x = last; y = y })) stamp ys zs
       → AreStamped (Round (k * t) (min s.points (k * t + t))) stamp xs zs
   AreStamped-ends s k from to first last same from_is to_is is_first is_last stamp xs ys zs one other =
       let long : s.points ≡ m.size.points = ap (λ (z : Size). z.points) same in
@@ -117,7 +129,8 @@ module _ (m : Map) (y : ℕ) (heights : List (Option ℤ)) (t : ℕ) where
     -- no part yet
     pub AreToldTo-none : AreToldTo 0 false xs
     AreToldTo-none = record {
-      stamped = AreStamped-as stamp (λ tile. ⊥) xs xs (AreStamped-none stamp xs) (Round 0 (min points (0 * t))) (λ tile within round. (let low = round.below in omega (arith, low))) (λ tile no. absurd no);
+      stamped = AreStamped-as stamp (λ tile. ⊥) xs xs (AreStamped-none stamp xs) (Round 0 (min points (0 * t))) (λ tile within round. (let low = round.below in omega (arith, low)))
+          (λ tile no. absurd no);
       found = λ e. absurd (cc e);
       none = λ e x from below. absurd (omega (arith, below));
     }
@@ -130,9 +143,11 @@ module _ (m : Map) (y : ℕ) (heights : List (Option ℤ)) (t : ℕ) where
         let next : min points (k * t + t) ≡ min points ((k + 1) * t) = omega arith in
         let up : k * t ≤ min points ((k + 1) * t) = omega (arith, inside) in
         record {
-          stamped = AreStamped-parts (k * t) (min points ((k + 1) * t)) stamp xs ys zs up (subst (λ (j : ℕ). AreStamped (Round 0 j) stamp xs ys) middle before.stamped) (subst (λ (j : ℕ). AreStamped (Round (k * t) j) stamp ys zs) next part);
+          stamped = AreStamped-parts (k * t) (min points ((k + 1) * t)) stamp xs ys zs up (subst (λ (j : ℕ). AreStamped (Round 0 j) stamp xs ys) middle before.stamped)
+              (subst (λ (j : ℕ). AreStamped (Round (k * t) j) stamp ys zs) next part);
           found = some_found points some more found before.found;
-          none = none_found (k * t) (min points ((k + 1) * t)) some more (subst (λ (j : ℕ). OnFalse more (AllStay m y heights (k * t) j)) next none) (λ e. subst (AllStay m y heights 0) middle (before.none e));
+          none = none_found (k * t) (min points ((k + 1) * t)) some more (subst (λ (j : ℕ). OnFalse more (AllStay m y heights (k * t) j)) next none)
+              (λ e. subst (AllStay m y heights 0) middle (before.none e));
         }
 
     -- all parts

@@ -32,7 +32,8 @@ pub fn first_change<G: Grid, L: Lane>(
     requires profile { y < (G.map grid.now).size.profiles }
     requires columns { length row.now ≡ (G.map grid.now).size.points }
     requires to { to ≤ (G.map grid.now).size.points }
-    ensures { MatchOption result (AllStay (G.map grid.now) y (values_of L.code row.now) from to) (IsFirstChange (G.map grid.now) y (values_of L.code row.now) from to) }
+    ensures { MatchOption result (AllStay (G.map grid.now) y (values_of L.code row.now) from to)
+        (IsFirstChange (G.map grid.now) y (values_of L.code row.now) from to) }
 {
     for x in from..to {
         if changes(grid, Pos { x, y }, row) {

@@ -125,9 +125,13 @@ impl<G: Grid> Grid for Tiles<G> {
     fn set_cell(&mut self, at: Pos, cell: Cell) -> Result<(), MapError>
         requires { self.old.changes < 2 ^ 63 }
         ensures sets { SetsCell (G.map self.old.grid) at cell result (G.map self.new.grid) }
-        ensures origin { ComesFrom (G.map self.old.grid) self.old.tiling.side self.old.stamps.items (G.map self.new.grid) self.new.tiling.side self.new.stamps.items }
-        ensures count { CountsChange (G.map self.old.grid) (G.map self.new.grid) self.old.changes self.new.changes }
-        ensures touched { TouchesRound self.old.tiling.side at (G.map self.old.grid) (G.map self.new.grid) self.old.changes self.new.changes self.old.stamps.items self.new.stamps.items }
+        ensures origin { ComesFrom (G.map self.old.grid) self.old.tiling.side self.old.stamps.items
+            (G.map self.new.grid) self.new.tiling.side self.new.stamps.items }
+        ensures count { CountsChange (G.map self.old.grid)
+            (G.map self.new.grid) self.old.changes self.new.changes }
+        ensures touched { TouchesRound self.old.tiling.side at (G.map self.old.grid)
+            (G.map self.new.grid) self.old.changes self.new.changes self.old.stamps.items
+            self.new.stamps.items }
     {
         if !contains(self.tiling.size(), at) {
             return Err(MapError::Outside(at));
@@ -146,10 +150,15 @@ impl<G: Grid> Grid for Tiles<G> {
         requires columns { length row.now ≡ (G.map self.old.grid).size.points }
         requires in_range { AreHeightsIn (G.map self.old.grid).data_type (values_of L.code row.now) }
         requires count { self.old.changes < 2 ^ 63 }
-        ensures sets { (G.map self.new.grid) ≡ with_heights (G.map self.old.grid) y (values_of L.code row.now) }
-        ensures origin { ComesFrom (G.map self.old.grid) self.old.tiling.side self.old.stamps.items (G.map self.new.grid) self.new.tiling.side self.new.stamps.items }
-        ensures count { CountsChange (G.map self.old.grid) (G.map self.new.grid) self.old.changes self.new.changes }
-        ensures touched { TouchesProfile self.old.tiling.side y (G.map self.old.grid) (G.map self.new.grid) self.old.changes self.new.changes self.old.stamps.items self.new.stamps.items }
+        ensures sets { (G.map self.new.grid) ≡ with_heights (G.map self.old.grid) y
+            (values_of L.code row.now) }
+        ensures origin { ComesFrom (G.map self.old.grid) self.old.tiling.side self.old.stamps.items
+            (G.map self.new.grid) self.new.tiling.side self.new.stamps.items }
+        ensures count { CountsChange (G.map self.old.grid)
+            (G.map self.new.grid) self.old.changes self.new.changes }
+        ensures touched { TouchesProfile self.old.tiling.side y (G.map self.old.grid)
+            (G.map self.new.grid) self.old.changes self.new.changes self.old.stamps.items
+            self.new.stamps.items }
     {
         let stamp = self.changes + 1;
         if touch_changes(&mut self.stamps, self.tiling, &self.grid, y, row, stamp) {
@@ -162,9 +171,13 @@ impl<G: Grid> Grid for Tiles<G> {
     fn set_mask(&mut self, at: Pos, masked: bool) -> Result<(), MapError>
         requires { self.old.changes < 2 ^ 63 }
         ensures sets { SetsMask (G.map self.old.grid) at masked result (G.map self.new.grid) }
-        ensures origin { ComesFrom (G.map self.old.grid) self.old.tiling.side self.old.stamps.items (G.map self.new.grid) self.new.tiling.side self.new.stamps.items }
-        ensures count { CountsChange (G.map self.old.grid) (G.map self.new.grid) self.old.changes self.new.changes }
-        ensures touched { TouchesRound self.old.tiling.side at (G.map self.old.grid) (G.map self.new.grid) self.old.changes self.new.changes self.old.stamps.items self.new.stamps.items }
+        ensures origin { ComesFrom (G.map self.old.grid) self.old.tiling.side self.old.stamps.items
+            (G.map self.new.grid) self.new.tiling.side self.new.stamps.items }
+        ensures count { CountsChange (G.map self.old.grid)
+            (G.map self.new.grid) self.old.changes self.new.changes }
+        ensures touched { TouchesRound self.old.tiling.side at (G.map self.old.grid)
+            (G.map self.new.grid) self.old.changes self.new.changes self.old.stamps.items
+            self.new.stamps.items }
     {
         if !contains(self.tiling.size(), at) {
             return Err(MapError::Outside(at));
@@ -181,9 +194,13 @@ impl<G: Grid> Grid for Tiles<G> {
     fn set_adjacency(&mut self, adjacency: Adjacency)
         requires { self.old.changes < 2 ^ 63 }
         ensures sets { (G.map self.new.grid) ≡ under adjacency (G.map self.old.grid) }
-        ensures origin { ComesFrom (G.map self.old.grid) self.old.tiling.side self.old.stamps.items (G.map self.new.grid) self.new.tiling.side self.new.stamps.items }
-        ensures count { CountsChange (G.map self.old.grid) (G.map self.new.grid) self.old.changes self.new.changes }
-        ensures touched { TouchesAll (G.map self.old.grid) (G.map self.new.grid) self.old.changes self.new.changes self.old.stamps.items self.new.stamps.items }
+        ensures origin { ComesFrom (G.map self.old.grid) self.old.tiling.side self.old.stamps.items
+            (G.map self.new.grid) self.new.tiling.side self.new.stamps.items }
+        ensures count { CountsChange (G.map self.old.grid)
+            (G.map self.new.grid) self.old.changes self.new.changes }
+        ensures touched { TouchesAll (G.map self.old.grid)
+            (G.map self.new.grid) self.old.changes self.new.changes self.old.stamps.items
+            self.new.stamps.items }
     {
         if self.grid.adjacency() == adjacency {
             return;

@@ -51,7 +51,8 @@ fn part_after(place: u32, length: u32, part: u32, side: u32) -> u32
 pub fn touch_round(stamps: &mut Vec<u64>, tiling: Tiling, at: Pos, stamp: u64)
     requires in_grid { InGrid tiling.size at }
     requires tiles { length stamps.old.items ≡ tile_count tiling.size tiling.side }
-    ensures { AreStamped (λ tile. IsRound tiling.size tiling.side tile at) stamp stamps.old.items stamps.new.items }
+    ensures { AreStamped (λ tile. IsRound tiling.size tiling.side tile at) stamp stamps.old.items
+        stamps.new.items }
 {
     let size = tiling.size();
     let side = tiling.side();
@@ -85,9 +86,14 @@ fn touch_part<G: Grid, L: Lane>(
     requires profile { y < tiling.size.profiles }
     requires columns { length row.now ≡ tiling.size.points }
     requires part { part * tiling.side < tiling.size.points }
-    ensures stamped { AreStamped (IsRoundChange (G.map grid.now) y (values_of L.code row.now) tiling.side (part * tiling.side) (min tiling.size.points (part * tiling.side + tiling.side))) stamp stamps.old.items stamps.new.items }
-    ensures some { OnTrue result (SomeChanges (G.map grid.now) y (values_of L.code row.now) tiling.size.points) }
-    ensures none { OnFalse result (AllStay (G.map grid.now) y (values_of L.code row.now) (part * tiling.side) (min tiling.size.points (part * tiling.side + tiling.side))) }
+    ensures stamped { AreStamped (IsRoundChange (G.map grid.now) y
+        (values_of L.code row.now) tiling.side (part * tiling.side)
+        (min tiling.size.points (part * tiling.side + tiling.side))) stamp stamps.old.items
+        stamps.new.items }
+    ensures some { OnTrue result (SomeChanges (G.map grid.now) y
+        (values_of L.code row.now) tiling.size.points) }
+    ensures none { OnFalse result (AllStay (G.map grid.now) y (values_of L.code row.now)
+        (part * tiling.side) (min tiling.size.points (part * tiling.side + tiling.side))) }
 {
     let from = part * tiling.side();
     let to = tiling.size().points.min(from + tiling.side());
@@ -114,9 +120,13 @@ pub fn touch_changes<G: Grid, L: Lane>(
     requires tiles { length stamps.old.items ≡ tile_count tiling.size tiling.side }
     requires profile { y < tiling.size.profiles }
     requires columns { length row.now ≡ tiling.size.points }
-    ensures stamped { AreStamped (IsRoundChange (G.map grid.now) y (values_of L.code row.now) tiling.side 0 tiling.size.points) stamp stamps.old.items stamps.new.items }
-    ensures some { OnTrue result (SomeChanges (G.map grid.now) y (values_of L.code row.now) tiling.size.points) }
-    ensures none { OnFalse result (AllStay (G.map grid.now) y (values_of L.code row.now) 0 tiling.size.points) }
+    ensures stamped { AreStamped (IsRoundChange (G.map grid.now) y
+        (values_of L.code row.now) tiling.side 0 tiling.size.points) stamp stamps.old.items
+        stamps.new.items }
+    ensures some { OnTrue result (SomeChanges (G.map grid.now) y
+        (values_of L.code row.now) tiling.size.points) }
+    ensures none { OnFalse result (AllStay (G.map grid.now) y
+        (values_of L.code row.now) 0 tiling.size.points) }
 {
     let mut some = false;
     for part in 0..tiling.across() {

@@ -74,7 +74,8 @@ pub fn top<S: Source, R: Source, W: Sink, V: Sink>(
         result (W.written out.old) (W.written out.new) }
 
     // Each accepted `saddle` line prints a certificate of the pits of its two points that is right on the map at that line.
-    ensures saddles { (s : State) (number : ℕ) (line : Items ℕ) (side : SideName) (a b : Pos) (reply : Reply) (after : State)
+    ensures saddles { (s : State) (number : ℕ) (line : Items ℕ) (side : SideName) (a b : Pos)
+        (reply : Reply) (after : State)
         → script_line line ≡ Ok (Some (Saddle side a b)) → IsAnswer s number line reply after → reply.accepted ≡ true
         → PrintsRight s.map side a b reply }
 
@@ -86,7 +87,8 @@ pub fn top<S: Source, R: Source, W: Sink, V: Sink>(
     ensures order { ReadsInOrder (form_of (map string_bytes words.now)) (S.files surface.old)
         (over (S.faults surface.old) (S.faults surface.new)) surface.old surface.new script.old script.new }
     ensures unread { result ≡ Status.SurfaceRefused → script.new ≡ script.old }
-    ensures within { ReadsWithin (form_of (map string_bytes words.now)) (surface.new ≡ surface.old) (script.new ≡ script.old)
+    ensures within { ReadsWithin (form_of (map string_bytes words.now)) (surface.new ≡ surface.old)
+        (script.new ≡ script.old)
         (reading (S.files surface.old) (S.left surface.old) (S.left surface.new) (over (S.faults surface.old) (S.faults surface.new)))
         (reading (R.files script.old) (R.left script.old) (R.left script.new) (over (R.faults script.old) (R.faults script.new))) }
 

@@ -126,7 +126,14 @@ DalesFound-form [] tiles saves request is = absurd (cc)
 DalesFound-form (surface ∷ []) [] [] request is =
     let (name, found, same) = option_map-some (filled surface) _ request is in
     let name_is = filled_is surface name found in
-    record { surface = surface; names_are = refl; tiles_are = refl; saves_are = refl; request_is = sym same ∙ ap (λ (n : List ℕ). RunOf (record { surface = n; script = None; tile = usual_tile; save = None })) name_is }
+    record {
+      surface = surface;
+      names_are = refl;
+      tiles_are = refl;
+      saves_are = refl;
+      request_is = sym same
+          ∙ ap (λ (n : List ℕ). RunOf (record { surface = n; script = None; tile = usual_tile; save = None })) name_is;
+    }
 DalesFound-form (surface ∷ []) (tile ∷ tiles) saves request is = absurd (cc)
 DalesFound-form (surface ∷ []) [] (save ∷ saves) request is = absurd (cc)
 DalesFound-form (surface ∷ (other ∷ names)) tiles saves request is = absurd (cc)
@@ -203,7 +210,20 @@ DemoFound-form (points ∷ (profiles ∷ (number ∷ (edits ∷ [])))) tiles (sa
 DemoFound-form (points ∷ (profiles ∷ (number ∷ (edits ∷ [])))) tiles [] request is =
     let (side, side_found, after_side) = option_and_then-some (tile_of tiles) _ request is in
     let (demo, found, same) = option_map-some (demo_of points profiles number edits side) _ request after_side in
-    record { points = points; profiles = profiles; number = number; edits = edits; side = side; demo = demo; names_are = refl; tile_is = side_found; saves_are = refl; demo_is = found; request_is = sym same }
+    record {
+      points = points;
+      profiles = profiles;
+      number = number;
+      edits = edits;
+      side = side;
+      demo = demo;
+      names_are = refl;
+      tile_is = side_found;
+      saves_are = refl;
+      demo_is =
+          found;
+      request_is = sym same;
+    }
 
 -- ---- how much is given
 

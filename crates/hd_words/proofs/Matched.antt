@@ -37,14 +37,16 @@ Asks-by (name ∷ rest) asked line is lined =
     let (given, gives, asks) = option_and_then-some (given_of Options rest) (form_named name) request found in
     go request found same given gives (bytes_eq name (codes "dales")) (bytes_eq name (codes "run")) (bytes_eq name (codes "check")) (bytes_eq name (codes "demo")) asks
   where
-    by : (request : Request) → form_of (name ∷ rest) ≡ Some request → command_for request ≡ asked → (given : Given) → given_of Options rest ≡ Some given → (mine : CommandLine) → line_of (command_for request) ≡ Some mine → form_by mine given ≡ Some request
+    by : (request : Request) → form_of (name ∷ rest) ≡ Some request → command_for request ≡ asked → (given : Given) → given_of Options rest ≡ Some given → (mine : CommandLine)
+        → line_of (command_for request) ≡ Some mine → form_by mine given ≡ Some request
         → AsksBy line asked (name ∷ rest)
     by request found same given gives mine mine_is asks =
         let e : mine ≡ line = cc in
         record { form = record { given = given; request = request; gives = gives; asks = subst (λ (l : CommandLine). form_by l given ≡ Some request) e asks; is = found }; command_is = same }
 
     go : (request : Request) → form_of (name ∷ rest) ≡ Some request → command_for request ≡ asked → (given : Given) → given_of Options rest ≡ Some given → (dales run check demo : Bool)
-        → (if dales then dales_form given else if run then run_form given else if check then check_form given else if demo then demo_form given else None) ≡ Some request → AsksBy line asked (name ∷ rest)
+        → (if dales then dales_form given else if run then run_form given else if check then check_form given else if demo then demo_form given else None) ≡ Some request
+        → AsksBy line asked (name ∷ rest)
     go request found same given gives true run check demo asks =
         let all = DalesFound-form given.names given.tiles given.saves request asks in
         by request found same given gives Dales (ap (λ (r : Request). line_of (command_for r)) all.request_is) asks
@@ -104,7 +106,8 @@ module _ (m : ArgMatches) (request : Request) where
       let found = RunFound-form given.names given.tiles given.saves request is in
       (some_is _ _ (name_at _ _ given m 0 _ _ holds found.names_are refl refl), some_is _ _ (name_at _ _ given m 1 _ _ holds found.names_are refl refl))
 
-  pub RunOf-asked : (surface script : List ℕ) (tile : ℕ) (save : Option (List ℕ)) → Asks Run m request → command_for request ≡ command.Run tile → first_value (found_of m) (codes "SURFACE") ≡ Some surface
+  pub RunOf-asked : (surface script : List ℕ) (tile : ℕ) (save : Option (List ℕ)) → Asks Run m request → command_for request ≡ command.Run tile
+      → first_value (found_of m) (codes "SURFACE") ≡ Some surface
       → first_value (found_of m) (codes "SCRIPT") ≡ Some script → save ≡ first_value (found_of m) (codes "save")
       → RunOf (record { surface = surface; script = Some script; tile = tile; save = save }) ≡ request
   RunOf-asked surface script tile save (given, holds, is) named surface_at script_at save_at =

@@ -112,7 +112,8 @@ Adds-name g text = record {
     others Tile apart = refl
     others Save apart = refl
 
-pub Adds-tile : (names tiles saves : List Text) (text : Text) → length tiles ≤ 0 → Adds Tile text (record { names = names; tiles = tiles; saves = saves }) (record { names = names; tiles = tiles ++ (text ∷ []); saves = saves })
+pub Adds-tile : (names tiles saves : List Text) (text : Text) → length tiles ≤ 0 → Adds Tile text (record { names = names; tiles = tiles; saves = saves })
+    (record { names = names; tiles = tiles ++ (text ∷ []); saves = saves })
 Adds-tile names (tile ∷ tiles) saves text none = absurd (omega arith)
 Adds-tile names [] saves text none = record { before = refl; after = refl; others = others }
   where
@@ -121,7 +122,8 @@ Adds-tile names [] saves text none = record { before = refl; after = refl; other
     others Tile apart = absurd (apart refl)
     others Save apart = refl
 
-pub Adds-save : (names tiles saves : List Text) (text : Text) → length saves ≤ 0 → Adds Save text (record { names = names; tiles = tiles; saves = saves }) (record { names = names; tiles = tiles; saves = saves ++ (text ∷ []) })
+pub Adds-save : (names tiles saves : List Text) (text : Text) → length saves ≤ 0 → Adds Save text (record { names = names; tiles = tiles; saves = saves })
+    (record { names = names; tiles = tiles; saves = saves ++ (text ∷ []) })
 Adds-save names tiles (save ∷ saves) text none = absurd (omega arith)
 Adds-save names tiles [] text none = record { before = refl; after = refl; others = others }
   where

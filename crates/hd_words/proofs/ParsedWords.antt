@@ -1,5 +1,6 @@
 -- A parse takes words that have their form, and finds what they give.
-use Rattle.std.proofs.Common.{◌≡◌, ◌∙◌, ◌<◌, ◌≤◌, ◌+◌, ◌&&◌, ◌||◌, ℕ, Bool, true, false, suc, get_or, refl, sym, ap, subst, arith, List, [], ◌∷◌, ◌++◌, length, drop, length-append, min, Option, Some, None, append-nil, append_assoc, codes, nat_eq}
+use Rattle.std.proofs.Common.{◌≡◌, ◌∙◌, ◌<◌, ◌≤◌, ◌+◌, ◌&&◌, ◌||◌, ℕ, Bool, true, false, suc, get_or, refl, sym, ap, subst, arith, List, [], ◌∷◌, ◌++◌}
+use Rattle.std.proofs.Common.{length, drop, length-append, min, Option, Some, None, append-nil, append_assoc, codes, nat_eq}
 use Rattle.std.specs.Prelude.{⊤, slice_get}
 use Rattle.std.specs.Option.{option_map}
 use Rattle.std.specs.List.{fold, starts_with}
@@ -10,7 +11,8 @@ use Rattle.std.proofs.Math.Bool.{and-false, or-false}
 use Rattle.clap.specs.Lexer.{long_of, short_of, usize_max}
 use Rattle.clap.specs.Simple.{Shape, new_shape}
 use Rattle.clap.specs.Takes.{settle_passes, step_passes, turn_passes, use_passes, walk_passes}
-use Rattle.clap.specs.Walk.{Held, Row, Rule, Text, Walk, arg_by_id, arg_by_index, arg_by_long, has_row, idle, is_pending, more_values, nothing_held, option as waits_for, reacted, settled, to_positional, used, value as is_value, walk_from, walked, without}
+use Rattle.clap.specs.Walk.{Held, Row, Rule, Text, Walk, arg_by_id, arg_by_index, arg_by_long, has_row, idle, is_pending, more_values, nothing_held}
+use Rattle.clap.specs.Walk.{option as waits_for, reacted, settled, to_positional, used, value as is_value, walk_from, walked, without}
 use Rattle.hd_words.specs.GivenWords.{Given, given_of, with_name, with_tile, with_save, begins_with_dash}
 use Rattle.hd_words.specs.WordSteps.{both_given, followed_by}
 use Rattle.hd_words.specs.declared.found.Stage.{Stage}
@@ -66,11 +68,13 @@ plain_ends : (word : Text) → begins_with_dash word ≡ false → bytes_eq word
 plain_ends [] plain = refl
 plain_ends (byte ∷ bytes) plain = rw plain refl
 
-one_tile : (before : Given) (text : List ℕ) (later : Option Given) → followed_by before (with_tile text later) ≡ followed_by (record { names = before.names; tiles = before.tiles ++ (text ∷ []); saves = before.saves }) later
+one_tile : (before : Given) (text : List ℕ) (later : Option Given) → followed_by before (with_tile text later)
+    ≡ followed_by (record { names = before.names; tiles = before.tiles ++ (text ∷ []); saves = before.saves }) later
 one_tile before text None = refl
 one_tile before text (Some g) = rw (append_assoc before.tiles (text ∷ []) g.tiles) refl
 
-one_save : (before : Given) (text : List ℕ) (later : Option Given) → followed_by before (with_save text later) ≡ followed_by (record { names = before.names; tiles = before.tiles; saves = before.saves ++ (text ∷ []) }) later
+one_save : (before : Given) (text : List ℕ) (later : Option Given) → followed_by before (with_save text later)
+    ≡ followed_by (record { names = before.names; tiles = before.tiles; saves = before.saves ++ (text ∷ []) }) later
 one_save before text None = refl
 one_save before text (Some g) = rw (append_assoc before.saves (text ∷ []) g.saves) refl
 
@@ -162,7 +166,8 @@ module _ (command : Text) (rules : List Rule) (ids : List Text) (tiles saves : �
 
   -- the argument of the next name takes the word
   name_taken : (trailing : Bool) (h : Held) (given : ℕ) (word id : Text) → slice_get ids given ≡ Some id → settle_passes rules false h ≡ true
-      → (step_passes s (suc given) h is_value ≡ true) × (to_positional rules (arg_by_index rules (suc given)) word (stands trailing h given) h ≡ stands trailing (pends id word (settled rules h).rows h.skip) (suc given))
+      → (step_passes s (suc given) h is_value ≡ true) × (to_positional rules (arg_by_index rules (suc given)) word (stands trailing h given) h
+      ≡ stands trailing (pends id word (settled rules h).rows h.skip) (suc given))
   name_taken trailing h given word id at passes =
       let here : given < length ids = slice_get_within ids given id at in
       let next : min (suc given + 1) usize_max ≡ suc (suc given) = omega (arith, here, reads.few_names) in
@@ -239,7 +244,8 @@ module _ (command : Text) (rules : List Rule) (ids : List Text) (tiles saves : �
     pub stopped : (fold (walked rules []) w words).stopped ≡ None
     pub holds : HoldsAll (fold (walked rules []) w words).held total
 
-  one_word : (w next : Walk) (word : Text) (words : List Text) (total : Given) → (turn_passes s [] w word ≡ true) × (walked rules [] w word ≡ next) → Goes next words total → Goes w (word ∷ words) total
+  one_word : (w next : Walk) (word : Text) (words : List Text) (total : Given) → (turn_passes s [] w word ≡ true) × (walked rules [] w word ≡ next) → Goes next words total
+      → Goes w (word ∷ words) total
   unfolding walk_passes
   one_word w next word words total (turn, is) goes = record {
     passes = rw (turn, is) goes.passes;
@@ -259,7 +265,8 @@ module _ (command : Text) (rules : List Rule) (ids : List Text) (tiles saves : �
   GoesFrom words = (stage : Stage) (g total : Given) (w : Walk) → At stage g w → followed_by g (given_of stage words) ≡ Some total → Fits ids tiles saves total → Goes w words total
 
   -- no word is left
-  goes_end : (g total : Given) (trailing : Bool) (h : Held) (w : Walk) → w ≡ stands trailing h (length g.names) → HoldsAll h g → followed_by g (Some (record { names = []; tiles = []; saves = [] })) ≡ Some total → Goes w [] total
+  goes_end : (g total : Given) (trailing : Bool) (h : Held) (w : Walk) → w ≡ stands trailing h (length g.names) → HoldsAll h g
+      → followed_by g (Some (record { names = []; tiles = []; saves = [] })) ≡ Some total → Goes w [] total
   unfolding walk_passes
   goes_end g total trailing h w at holds is =
       let all : g ≡ total = ends_all g total is in
@@ -311,7 +318,8 @@ module _ (command : Text) (rules : List Rule) (ids : List Text) (tiles saves : �
       one_word w (stands false next (length g.names)) text words total (rw at step) (more next held)
 
   -- an option with its value
-  holds_used : (g next : Given) (k : Key) (id text : Text) (long : Option Text) (index : Option ℕ) (h : Held) → id_of ids k ≡ Some id → Adds k text g next → HoldsAll h g → HoldsAll (reacted rules (taken id long index) (text ∷ []) h) next
+  holds_used : (g next : Given) (k : Key) (id text : Text) (long : Option Text) (index : Option ℕ) (h : Held) → id_of ids k ≡ Some id → Adds k text g next → HoldsAll h g
+      → HoldsAll (reacted rules (taken id long index) (text ∷ []) h) next
   holds_used g next k id text long index h is adds holds =
       let none : row_at id (settled rules h).rows ≡ None = holds.rows k id is ∙ ap (option_map (said id)) adds.before in
       record {
@@ -321,7 +329,8 @@ module _ (command : Text) (rules : List Rule) (ids : List Text) (tiles saves : �
       }
 
   goes_joined_tile : (g total : Given) (w : Walk) (h : Held) (text : Text) (words : List Text) → w ≡ stands false h (length g.names) → HoldsAll h g
-      → Fits ids tiles saves (more_tiles g text) → ((next : Held) → HoldsAll next (more_tiles g text) → Goes (stands false next (length g.names)) words total) → Goes w ((codes "--tile=" ++ text) ∷ words) total
+      → Fits ids tiles saves (more_tiles g text) → ((next : Held) → HoldsAll next (more_tiles g text) → Goes (stands false next (length g.names)) words total)
+      → Goes w ((codes "--tile=" ++ text) ∷ words) total
   goes_joined_tile g total w h text words at holds fits more =
       let first : length g.tiles ≤ 0 = omega (arith, length-append g.tiles (text ∷ []), fits.tile_count, reads.few_tiles) in
       let some : 0 < tiles = omega (arith, length-append g.tiles (text ∷ []), fits.tile_count) in
@@ -332,7 +341,8 @@ module _ (command : Text) (rules : List Rule) (ids : List Text) (tiles saves : �
       (more _ (holds_used g (more_tiles g text) Tile (codes "tile") text (Some (codes "tile")) None h refl adds holds))
 
   goes_joined_save : (g total : Given) (w : Walk) (h : Held) (text : Text) (words : List Text) → w ≡ stands false h (length g.names) → HoldsAll h g
-      → Fits ids tiles saves (more_saves g text) → ((next : Held) → HoldsAll next (more_saves g text) → Goes (stands false next (length g.names)) words total) → Goes w ((codes "--save=" ++ text) ∷ words) total
+      → Fits ids tiles saves (more_saves g text) → ((next : Held) → HoldsAll next (more_saves g text) → Goes (stands false next (length g.names)) words total)
+      → Goes w ((codes "--save=" ++ text) ∷ words) total
   goes_joined_save g total w h text words at holds fits more =
       let first : length g.saves ≤ 0 = omega (arith, length-append g.saves (text ∷ []), fits.save_count, reads.few_saves) in
       let some : 0 < saves = omega (arith, length-append g.saves (text ∷ []), fits.save_count) in
@@ -415,14 +425,16 @@ module _ (command : Text) (rules : List Rule) (ids : List Text) (tiles saves : �
         by_dash false plain ends tile save tile_value save_value =
             from_name Options false word h (λ _. (ends, plain)) (λ next held. (next, refl, held)) at holds (rw (ends, tile, save, tile_value, save_value, plain) at is)
 
-        by_save_value : (starts : Bool) → starts_with nat_eq word (codes "--save=") ≡ starts → bytes_eq word (codes "--") ≡ false → bytes_eq word (codes "--tile") ≡ false → bytes_eq word (codes "--save") ≡ false
+        by_save_value : (starts : Bool) → starts_with nat_eq word (codes "--save=") ≡ starts → bytes_eq word (codes "--") ≡ false → bytes_eq word (codes "--tile") ≡ false
+            → bytes_eq word (codes "--save") ≡ false
             → starts_with nat_eq word (codes "--tile=") ≡ false → Goes w (word ∷ words) total
         by_save_value false other ends tile save tile_value = by_dash (begins_with_dash word) refl ends tile save tile_value other
         by_save_value true starts ends tile save tile_value =
             let word_is = begins word (codes "--save=") starts in
             subst (λ (x : Text). Goes w (x ∷ words) total) (sym word_is) (on_joined_save (drop 7 word) (subst (λ (x : Text). followed_by g (given_of Options (x ∷ words)) ≡ Some total) word_is is))
 
-        by_tile_value : (starts : Bool) → starts_with nat_eq word (codes "--tile=") ≡ starts → bytes_eq word (codes "--") ≡ false → bytes_eq word (codes "--tile") ≡ false → bytes_eq word (codes "--save") ≡ false → Goes w (word ∷ words) total
+        by_tile_value : (starts : Bool) → starts_with nat_eq word (codes "--tile=") ≡ starts → bytes_eq word (codes "--") ≡ false → bytes_eq word (codes "--tile") ≡ false
+            → bytes_eq word (codes "--save") ≡ false → Goes w (word ∷ words) total
         by_tile_value false other ends tile save = by_save_value (starts_with nat_eq word (codes "--save=")) refl ends tile save other
         by_tile_value true starts ends tile save =
             let word_is = begins word (codes "--tile=") starts in

@@ -92,5 +92,6 @@ IsWithinLimits-request (name ∷ rest) request is =
         subst IsWithinLimits (sym found.request_is) tt
     go given false false false true asks =
         let found = DemoFound-form given.names given.tiles given.saves request asks in
-        subst IsWithinLimits (sym found.request_is) (demo_of_within found.points found.profiles found.number found.edits found.side found.demo (tile_within given.tiles found.side found.tile_is) found.demo_is)
+        subst IsWithinLimits (sym found.request_is) (demo_of_within found.points found.profiles found.number found.edits found.side found.demo
+        (tile_within given.tiles found.side found.tile_is) found.demo_is)
     go given false false false false asks = absurd (cc)

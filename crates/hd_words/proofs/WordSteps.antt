@@ -69,24 +69,43 @@ two_saves-run ((byte ∷ bytes) ∷ ((letter ∷ letters) ∷ [])) tiles first s
 two_saves-run (name ∷ (script ∷ (other ∷ names))) tiles first second more = refl
 
 -- a second value of `--tile` has no form
-pub with_tile-full : (names saves : List (List ℕ)) (first value : List ℕ) (later : Option Given) → HasNoForm (followed_by (record { names = names; tiles = first ∷ []; saves = saves }) (with_tile value later))
+pub with_tile-full : (names saves : List (List ℕ)) (first value : List ℕ) (later : Option Given)
+    → HasNoForm (followed_by (record { names = names; tiles = first ∷ []; saves = saves }) (with_tile value later))
 with_tile-full names saves first value None = record { dales = refl; run = refl; check = refl; demo = refl }
-with_tile-full names saves first value (Some g) = record { dales = two_tiles-dales (names ++ g.names) (saves ++ g.saves) first value g.tiles; run = two_tiles-run (names ++ g.names) (saves ++ g.saves) first value g.tiles; check = two_tiles-check (names ++ g.names) (saves ++ g.saves) first value g.tiles; demo = two_tiles-demo (names ++ g.names) (saves ++ g.saves) first value g.tiles }
+with_tile-full names saves first value (Some g) = record {
+  dales = two_tiles-dales (names ++ g.names) (saves ++ g.saves) first value g.tiles;
+  run = two_tiles-run (names
+      ++ g.names) (saves ++ g.saves) first value g.tiles;
+  check = two_tiles-check (names ++ g.names) (saves ++ g.saves) first value g.tiles;
+  demo = two_tiles-demo (names ++ g.names)
+      (saves ++ g.saves) first value g.tiles;
+}
 
 -- a second value of `--save` has no form
-pub with_save-full : (names tiles : List (List ℕ)) (first value : List ℕ) (later : Option Given) → HasNoForm (followed_by (record { names = names; tiles = tiles; saves = first ∷ [] }) (with_save value later))
+pub with_save-full : (names tiles : List (List ℕ)) (first value : List ℕ) (later : Option Given)
+    → HasNoForm (followed_by (record { names = names; tiles = tiles; saves = first ∷ [] }) (with_save value later))
 with_save-full names tiles first value None = record { dales = refl; run = refl; check = refl; demo = refl }
-with_save-full names tiles first value (Some g) = record { dales = two_saves-dales (names ++ g.names) (tiles ++ g.tiles) first value g.saves; run = two_saves-run (names ++ g.names) (tiles ++ g.tiles) first value g.saves; check = two_saves-check (names ++ g.names) (tiles ++ g.tiles) first value g.saves; demo = two_saves-demo (names ++ g.names) (tiles ++ g.tiles) first value g.saves }
+with_save-full names tiles first value (Some g) = record {
+  dales = two_saves-dales (names ++ g.names) (tiles ++ g.tiles) first value g.saves;
+  run = two_saves-run (names
+      ++ g.names) (tiles ++ g.tiles) first value g.saves;
+  check = two_saves-check (names ++ g.names) (tiles ++ g.tiles) first value g.saves;
+  demo = two_saves-demo (names ++ g.names)
+      (tiles ++ g.tiles) first value g.saves;
+}
 
-pub with_tile-first : (names saves : List (List ℕ)) (value : List ℕ) (later : Option Given) → followed_by (record { names = names; tiles = []; saves = saves }) (with_tile value later) ≡ followed_by (record { names = names; tiles = value ∷ []; saves = saves }) later
+pub with_tile-first : (names saves : List (List ℕ)) (value : List ℕ) (later : Option Given)
+    → followed_by (record { names = names; tiles = []; saves = saves }) (with_tile value later) ≡ followed_by (record { names = names; tiles = value ∷ []; saves = saves }) later
 with_tile-first names saves value None = refl
 with_tile-first names saves value (Some g) = refl
 
-pub with_save-first : (names tiles : List (List ℕ)) (value : List ℕ) (later : Option Given) → followed_by (record { names = names; tiles = tiles; saves = [] }) (with_save value later) ≡ followed_by (record { names = names; tiles = tiles; saves = value ∷ [] }) later
+pub with_save-first : (names tiles : List (List ℕ)) (value : List ℕ) (later : Option Given)
+    → followed_by (record { names = names; tiles = tiles; saves = [] }) (with_save value later) ≡ followed_by (record { names = names; tiles = tiles; saves = value ∷ [] }) later
 with_save-first names tiles value None = refl
 with_save-first names tiles value (Some g) = refl
 
-five_names : (names tiles saves : List (List ℕ)) (name : List ℕ) (later : Option Given) → length names ≡ 4 → HasNoForm (followed_by (record { names = names; tiles = tiles; saves = saves }) (with_name name later))
+five_names : (names tiles saves : List (List ℕ)) (name : List ℕ) (later : Option Given) → length names ≡ 4
+    → HasNoForm (followed_by (record { names = names; tiles = tiles; saves = saves }) (with_name name later))
 five_names names tiles saves name None four = record { dales = refl; run = refl; check = refl; demo = refl }
 five_names [] tiles saves name (Some g) four = absurd (omega arith)
 five_names (one ∷ []) tiles saves name (Some g) four = absurd (omega arith)
@@ -99,17 +118,20 @@ five_names (one ∷ (two ∷ (three ∷ (fourth ∷ (fifth ∷ names))))) tiles 
 pub with_name-full : (before : Given) (name : List ℕ) (later : Option Given) → length before.names ≡ 4 → HasNoForm (followed_by before (with_name name later))
 with_name-full before name later four = five_names before.names before.tiles before.saves name later four
 
-pub with_name-one : (before : Given) (name : List ℕ) (later : Option Given) → followed_by before (with_name name later) ≡ followed_by (record { names = before.names ++ (name ∷ []); tiles = before.tiles; saves = before.saves }) later
+pub with_name-one : (before : Given) (name : List ℕ) (later : Option Given) → followed_by before (with_name name later)
+    ≡ followed_by (record { names = before.names ++ (name ∷ []); tiles = before.tiles; saves = before.saves }) later
 with_name-one before name None = refl
 with_name-one before name (Some g) = rw (append_assoc before.names (name ∷ []) g.names) refl
 
 -- a word that is no option
-pub given_of-plain_word : (word : List ℕ) (words : List (List ℕ)) → IsNoOptionAlone word → starts_with nat_eq word (codes "--tile=") ≡ false → starts_with nat_eq word (codes "--save=") ≡ false → begins_with_dash word ≡ false
+pub given_of-plain_word : (word : List ℕ) (words : List (List ℕ)) → IsNoOptionAlone word → starts_with nat_eq word (codes "--tile=") ≡ false
+    → starts_with nat_eq word (codes "--save=") ≡ false → begins_with_dash word ≡ false
     → given_of Options (word ∷ words) ≡ with_name word (given_of Options words)
 given_of-plain_word word words alone tile save dash = rw (alone.ends, alone.tile, alone.save, tile, save, dash) refl
 
 -- another word that begins with `-` has no form
-pub HasNoForm-refused : (before : Given) (word : List ℕ) (words : List (List ℕ)) → IsNoOptionAlone word → starts_with nat_eq word (codes "--tile=") ≡ false → starts_with nat_eq word (codes "--save=") ≡ false → begins_with_dash word ≡ true
+pub HasNoForm-refused : (before : Given) (word : List ℕ) (words : List (List ℕ)) → IsNoOptionAlone word → starts_with nat_eq word (codes "--tile=") ≡ false
+    → starts_with nat_eq word (codes "--save=") ≡ false → begins_with_dash word ≡ true
     → HasNoForm (followed_by before (given_of Options (word ∷ words)))
 HasNoForm-refused before word words alone tile save dash = rw (alone.ends, alone.tile, alone.save, tile, save, dash) (record { dales = refl; run = refl; check = refl; demo = refl })
 

@@ -72,7 +72,8 @@ fn two_names_line<'a>(
     first: &'a str,
     second: &'a str,
 ) -> Result<Command<'a>, AllocError>
-    ensures { IfOk result (λ command. app_of command ≡ app_of_two name.entry.now first.entry.now second.entry.now) }
+    ensures { IfOk result (λ command. app_of command
+        ≡ app_of_two name.entry.now first.entry.now second.entry.now) }
 {
     plain_command(alloc, name)
         .arg(name_arg(alloc, first))?

@@ -88,7 +88,8 @@ fn matches_of<'a>(
 // What `dales` asks for.
 fn dales_job<'a>(matches: &ArgMatches<'a>) -> RunJob<'a>
     requires { (request : Request) × Asks CommandLine.Dales matches.now request }
-    ensures { (request : Request) → Asks CommandLine.Dales matches.now request → Run (run_request_of result) ≡ request }
+    ensures { (request : Request) → Asks CommandLine.Dales matches.now request
+        → Run (run_request_of result) ≡ request }
 {
     RunJob {
         surface: name_in(matches, "SURFACE"),
@@ -115,7 +116,8 @@ fn run_job<'a>(matches: &ArgMatches<'a>, tile: u32) -> RunJob<'a>
 // What `check` asks for.
 fn check_job<'a>(matches: &ArgMatches<'a>) -> CheckJob<'a>
     requires { (request : Request) × Asks CommandLine.Check matches.now request }
-    ensures { (request : Request) → Asks CommandLine.Check matches.now request → Check (check_request_of result) ≡ request }
+    ensures { (request : Request) → Asks CommandLine.Check matches.now request
+        → Check (check_request_of result) ≡ request }
 {
     CheckJob {
         surface: name_in(matches, "SURFACE"),

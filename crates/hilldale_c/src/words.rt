@@ -42,7 +42,8 @@ pub(crate) fn check_words(alloc: Global) -> Result<Vec<String>, Memory>
 
 // Adds a word.
 fn push_word(alloc: Global, words: &mut Vec<String>, word: &str) -> Result<(), Memory>
-    ensures { OnOk result (map string_bytes words.new.items ≡ map string_bytes words.old.items ++ word.now ∷ []) }
+    ensures { OnOk result (map string_bytes words.new.items ≡ map string_bytes words.old.items
+        ++ word.now ∷ []) }
 {
     words.push(String::from_str(alloc, word)?)?;
     Ok(())

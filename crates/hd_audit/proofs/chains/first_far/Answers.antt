@@ -20,7 +20,8 @@ IsFar m side thousandths sz top x = (x.parent ≡ None → ⊥) × IsPit m side 
 pub loop-k-init : goal.loop-k-init
 loop-k-init g c =
     let l = c.args.limit.now in
-    AreChainsTo-none (g.G.Heights.map c.args.surface.now) l.side l.percent.thousandths l.sz c.args.lines.now c.in_ok-tops.tops.items (ap length (c.in_ok-tops.ensures.items_if_clones_equal (λ _ e. e)) ∙ length-replicate {A = ℤ} c.cells_of.result (pos 0) ∙ c.cells_of.ensures)
+    AreChainsTo-none (g.G.Heights.map c.args.surface.now) l.side l.percent.thousandths l.sz c.args.lines.now c.in_ok-tops.tops.items
+    (ap length (c.in_ok-tops.ensures.items_if_clones_equal (λ _ e. e)) ∙ length-replicate {A = ℤ} c.cells_of.result (pos 0) ∙ c.cells_of.ensures)
 
 pub is_far-requires-clause-top : goal.is_far-requires-clause-top
 is_far-requires-clause-top g c =
@@ -28,8 +29,12 @@ is_far-requires-clause-top g c =
     let side = c.args.limit.now.side in
     let lines = c.args.lines.now in
     let i : ℕ = (line_at lines c.loop-k.k).index in
-    let up = c.top_of-top.ensures in
-    (up.top, IsChainTop-point m side lines c.requires.new i up.top up.is_top, up.height_is ∙ sym (IsHeight-kept c.top_of-top.result (IsTopHeight-fits m side lines c.requires.new (g.met.G.Heights.whole c.args.surface.now) i c.top_of-top.result up)))
+    let up = c.top_of-top.ensures in (
+      up.top,
+      IsChainTop-point m side lines c.requires.new i up.top up.is_top,
+      up.height_is
+          ∙ sym (IsHeight-kept c.top_of-top.result (IsTopHeight-fits m side lines c.requires.new (g.met.G.Heights.whole c.args.surface.now) i c.top_of-top.result up)),
+    )
 
 pub returns-then-is_far : goal.returns-then-is_far
 returns-then-is_far g c =
@@ -56,7 +61,8 @@ loop-k-preserved g c =
     let i : ℕ = (line_at lines k).index in
     let up = c.top_of-top.ensures in
     let kept = IsHeight-kept c.top_of-top.result (IsTopHeight-fits m l.side lines c.requires.new (g.met.G.Heights.whole c.args.surface.now) i c.top_of-top.result up) in
-    let near = subst (λ (x : AuditLine). IsFar m l.side l.percent.thousandths l.sz up.top x → ⊥) c.at-line.ensures (test-fails c.is_far.result c.if-is_far.false (c.is_far.ensures up.top (up.height_is ∙ sym kept))) in
+    let near = subst (λ (x : AuditLine). IsFar m l.side l.percent.thousandths l.sz up.top x → ⊥) c.at-line.ensures
+    (test-fails c.is_far.result c.if-is_far.false (c.is_far.ensures up.top (up.height_is ∙ sym kept))) in
     let new = c.requires.new k (rw c.len-k-end.ensures at c.loop-k-test.true) in
     rw (kept, c.at-line.ensures) (AreChainsTo-more m l.side l.percent.thousandths l.sz lines c.loop-k.tops.items k c.top_of-top.result new.new new.inside c.loop-k.invariant up
     (IsRightAt-where m l.side l.percent.thousandths l.sz lines k up.top up.is_top near))

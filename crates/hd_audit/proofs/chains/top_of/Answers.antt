@@ -23,15 +23,20 @@ returns-in-Some g c =
     let p = c.in-Some.parent in
     let whole = g.met.G.Heights.whole c.args.surface.now in
     let is : IsLineOf lines i (line_at lines k) = record { listed = Contains-get_or lines k (record { index = 0; parent = None; cut = None }) c.requires.line; index = refl } in
-    let own : c.rank_of-own.result.height ≡ (rank_at m i).height = ap (λ (r : Rank). r.height) (c.rank_of-own.ensures ∙ ap (rank m) (c.position_in.ensures ∙ ap (λ (x : AuditLine). position_at m.size x.index) c.at-line.ensures)) in
+    let own : c.rank_of-own.result.height ≡ (rank_at m i).height = ap (λ (r : Rank). r.height)
+    (c.rank_of-own.ensures ∙ ap (rank m) (c.position_in.ensures ∙ ap (λ (x : AuditLine). position_at m.size x.index) c.at-line.ensures)) in
     let parent = ap (λ (x : AuditLine). x.parent) (sym c.at-line.ensures) ∙ c.in-Some.is in
     let earlier = IsEarlierNeighbour-parent m lines k p c.requires.line parent c.requires.parents in
-    let up : IsTopHeight m side lines p (get_or c.args.tops.now p (pos 0)) = subst (λ (j : ℕ). IsTopHeight m side lines j (get_or c.args.tops.now j (pos 0))) earlier.index (c.requires.tops earlier.earlier earlier.before) in
-    let top : IsTopHeight m side lines i (higher_height side (rank_at m i).height (get_or c.args.tops.now p (pos 0))) = IsTopHeight-higher m side lines i p (line_at lines k) (get_or c.args.tops.now p (pos 0)) is parent up in
+    let up : IsTopHeight m side lines p (get_or c.args.tops.now p (pos 0)) = subst (λ (j : ℕ). IsTopHeight m side lines j (get_or c.args.tops.now j (pos 0))) earlier.index
+    (c.requires.tops earlier.earlier earlier.before) in
+    let top : IsTopHeight m side lines i (higher_height side (rank_at m i).height (get_or c.args.tops.now p (pos 0))) = IsTopHeight-higher m side lines i p (line_at lines k)
+    (get_or c.args.tops.now p (pos 0)) is parent up in
     let alone_fits : IsHeight c.rank_of-own.result.height = subst IsHeight (sym own) (line_at-fits m lines c.requires.new whole k c.requires.line) in
     let result : c.higher.result ≡ higher_height side (rank_at m i).height (get_or c.args.tops.now p (pos 0)) =
-    c.higher.ensures ∙ ap₂ (higher_height side) (IsHeight-kept c.rank_of-own.result.height alone_fits ∙ own) (IsHeight-kept (get_or c.args.tops.now p (pos 0)) (IsTopHeight-fits m side lines c.requires.new whole p (get_or c.args.tops.now p (pos 0)) up)) in
-    let fits : IsHeight c.higher.result = subst IsHeight (sym result) (IsTopHeight-fits m side lines c.requires.new whole i (higher_height side (rank_at m i).height (get_or c.args.tops.now p (pos 0))) top) in
+    c.higher.ensures ∙ ap₂ (higher_height side) (IsHeight-kept c.rank_of-own.result.height alone_fits ∙ own)
+    (IsHeight-kept (get_or c.args.tops.now p (pos 0)) (IsTopHeight-fits m side lines c.requires.new whole p (get_or c.args.tops.now p (pos 0)) up)) in
+    let fits : IsHeight c.higher.result = subst IsHeight (sym result) (IsTopHeight-fits m side lines c.requires.new whole i
+    (higher_height side (rank_at m i).height (get_or c.args.tops.now p (pos 0))) top) in
     subst (IsTopHeight m side lines i) (sym (IsHeight-kept c.higher.result fits ∙ result)) top
 
 pub returns-in-None : goal.returns-in-None
@@ -42,7 +47,8 @@ returns-in-None g c =
     let k = c.args.k in
     let i : ℕ = (line_at lines k).index in
     let is : IsLineOf lines i (line_at lines k) = record { listed = Contains-get_or lines k (record { index = 0; parent = None; cut = None }) c.requires.line; index = refl } in
-    let own : c.rank_of-own.result.height ≡ (rank_at m i).height = ap (λ (r : Rank). r.height) (c.rank_of-own.ensures ∙ ap (rank m) (c.position_in.ensures ∙ ap (λ (x : AuditLine). position_at m.size x.index) c.at-line.ensures)) in
+    let own : c.rank_of-own.result.height ≡ (rank_at m i).height = ap (λ (r : Rank). r.height)
+    (c.rank_of-own.ensures ∙ ap (rank m) (c.position_in.ensures ∙ ap (λ (x : AuditLine). position_at m.size x.index) c.at-line.ensures)) in
     let top : IsTopHeight m side lines i (rank_at m i).height = IsTopHeight-alone m side lines i (line_at lines k, is, ap (λ (x : AuditLine). x.parent) (sym c.at-line.ensures) ∙ c.in-None.is) in
     let fits : IsHeight c.rank_of-own.result.height = subst IsHeight (sym own) (IsTopHeight-fits m side lines c.requires.new (g.met.G.Heights.whole c.args.surface.now) i (rank_at m i).height top) in
     subst (IsTopHeight m side lines i) (sym (IsHeight-kept c.rank_of-own.result.height fits ∙ own)) top

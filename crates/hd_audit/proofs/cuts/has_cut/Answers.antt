@@ -19,4 +19,8 @@ returns-in-Some g c =
     (λ t. there (sym same ∙ is.0 (sym c.eq.ensures ∙ t)), λ h. c.eq.ensures ∙ is.1 (same ∙ back h))
 
 pub returns-in-None : goal.returns-in-None
-returns-in-None g c = (λ e. absurd (false≢true e), λ h. absurd (HasCut-none (g.G.Heights.map c.args._surface.now) c.args.lines.now c.args.places.now c.requires c.args.index c.args.cut (sym c.in-None.ensures) h))
+returns-in-None g c = (
+  λ e. absurd (false≢true e),
+  λ h. absurd (HasCut-none (g.G.Heights.map c.args._surface.now) c.args.lines.now c.args.places.now c.requires c.args.index
+      c.args.cut (sym c.in-None.ensures) h),
+)

@@ -21,4 +21,5 @@ returns g c =
     let all : (q : Pos) → Contains c.as_slice.result.now q ↔ Neighbour m c.position_in-at.result q = rw c.as_slice.ensures c.neighbours-near.ensures.all in
     let ordered : AllPairs (λ a b. place_of m.size a < place_of m.size b) c.as_slice.result.now = rw c.as_slice.ensures c.neighbours-near.ensures.ordered in
     subst (λ (p : Pos). FirstLeakRound m c.args.limit.now.side c.args.limit.now.percent.thousandths c.args.limit.now.sz c.args.lines.now c.args.cut p c.first_leaking.result) c.position_in-at.ensures
-    (FirstLeakRound-leak m c.args.limit.now.side c.args.limit.now.percent.thousandths c.args.limit.now.sz c.args.lines.now c.args.cut c.position_in-at.result c.as_slice.result.now all ordered c.first_leaking.result c.first_leaking.ensures)
+    (FirstLeakRound-leak m c.args.limit.now.side c.args.limit.now.percent.thousandths c.args.limit.now.sz c.args.lines.now c.args.cut c.position_in-at.result c.as_slice.result.now
+    all ordered c.first_leaking.result c.first_leaking.ensures)

@@ -20,6 +20,8 @@ returns-in-Over-clause-offers g c =
     let inside : c.index_of-index.result < length standing = (let cells = place_inside m.size at c.requires.in_grid in let long = c.requires.standing.whole in omega (arith, index, cells, long)) in
     let over : standing_at standing c.index_of-index.result ≡ Over = get_or_default standing c.index_of-index.result Absent c.index.result.now inside ∙ sym c.index.ensures ∙ c.in-Over.is in
     let is : standing_at standing (place_of m.size at) ≡ Over = subst (λ i. standing_at standing i ≡ Over) index over in
-    subst (λ (ahead : List (Option ℕ)). OffersIfPresent m side at c.args.from c.args.level.now (seen_of standing) front.ahead (heap_items front.low) (seen_of (set standing c.index_of-index.result Seen)) ahead (heap_items front.low)) (sym c.put.ensures)
-    (subst (λ i. OffersIfPresent m side at c.args.from c.args.level.now (seen_of standing) front.ahead (heap_items front.low) (seen_of (set standing i Seen)) (set front.ahead i (Some c.args.from)) (heap_items front.low)) (sym index)
+    subst (λ (ahead : List (Option ℕ)). OffersIfPresent m side at c.args.from c.args.level.now (seen_of standing) front.ahead (heap_items front.low)
+    (seen_of (set standing c.index_of-index.result Seen)) ahead (heap_items front.low)) (sym c.put.ensures)
+    (subst (λ i. OffersIfPresent m side at c.args.from c.args.level.now (seen_of standing) front.ahead (heap_items front.low) (seen_of (set standing i Seen))
+    (set front.ahead i (Some c.args.from)) (heap_items front.low)) (sym index)
     (OffersIfPresent-over m side at c.args.from c.args.level.now standing front.ahead (heap_items front.low) c.requires.in_grid c.requires.standing is))

@@ -9,7 +9,8 @@ use Rattle.hd_audit.proofs.Standings.{OffersIfPresent-under, Present-under, AreS
 use Rattle.hd_audit.proofs.front.offer_low.Goals as goal
 
 pub rank_of-point-requires : goal.rank_of-point-requires
-rank_of-point-requires g c = Present-under (g.G.Heights.map c.args.grid.now) g.S.Side.NAME c.args.level.now c.args.front.now.standing.items c.args.at c.requires.in_grid c.requires.standing c.requires.under
+rank_of-point-requires g c = Present-under (g.G.Heights.map c.args.grid.now) g.S.Side.NAME c.args.level.now c.args.front.now.standing.items c.args.at c.requires.in_grid
+    c.requires.standing c.requires.under
 
 pub returns-clause-offers : goal.returns-clause-offers
 returns-clause-offers g c =
@@ -19,7 +20,8 @@ returns-clause-offers g c =
     let front = c.args.front.now in
     let standing = front.standing.items in
     let index : c.rank_of-point.result.index ≡ place_of m.size at = ap (λ (r : Rank). r.index) c.rank_of-point.ensures in
-    subst (λ i. OffersIfPresent m side at c.args.from c.args.level.now (seen_of standing) front.ahead (heap_items front.low) (seen_of (set standing i Seen)) front.ahead (heap_items c.push.new.self)) (sym index)
+    subst (λ i. OffersIfPresent m side at c.args.from c.args.level.now (seen_of standing) front.ahead (heap_items front.low) (seen_of (set standing i Seen)) front.ahead
+    (heap_items c.push.new.self)) (sym index)
     (OffersIfPresent-under m side at c.args.from c.args.level.now standing front.ahead (heap_items front.low) (heap_items c.push.new.self) c.requires.in_grid c.requires.standing c.requires.under
     (record { added = c.new.result; rank_is = c.new.ensures.rank ∙ c.rank_of-point.ensures; from_is = c.new.ensures.from; moved = c.in_ok-push.ensures.permutation }))
 

@@ -15,15 +15,20 @@ use Rattle.hd_audit.proofs.listing.list_from.Goals as goal
 use Rattle.hd_audit.proofs.listing.list_from.Goals.{In-Some, In_ok-list_point}
 
 -- what is known of the point, if it waits
-listed : (g : Over) (c : In-Some g) → IsListed (g.G.Heights.map c.args.grid.now) (g.met.G.Heights.whole c.args.grid.now) g.S.Side.NAME c.args.limit.now.percent.thousandths c.args.limit.now.sz (pits_kept c.args.kept.now) c.requires.firm
-    c.args.lines.now (seen_of c.args.front.now.standing.items) c.args.front.now.ahead c.requires.shown c.args.point (set c.args.front.now.ahead c.args.point.index None) (heap_items c.args.front.now.low) c.in-Some.from c.args.point
+listed : (g : Over) (c : In-Some g) → IsListed (g.G.Heights.map c.args.grid.now) (g.met.G.Heights.whole c.args.grid.now) g.S.Side.NAME c.args.limit.now.percent.thousandths
+    c.args.limit.now.sz (pits_kept c.args.kept.now) c.requires.firm
+    c.args.lines.now (seen_of c.args.front.now.standing.items) c.args.front.now.ahead c.requires.shown c.args.point (set c.args.front.now.ahead c.args.point.index None)
+    (heap_items c.args.front.now.low) c.in-Some.from c.args.point
 listed g c =
-    IsListed-level (g.G.Heights.map c.args.grid.now) (g.met.G.Heights.whole c.args.grid.now) g.S.Side.NAME c.args.limit.now.percent.thousandths c.args.limit.now.sz (pits_kept c.args.kept.now) c.requires.firm
-    c.args.lines.now (seen_of c.args.front.now.standing.items) c.args.front.now.ahead c.requires.shown (heap_items c.args.front.now.low) c.args.point c.in-Some.from c.requires.front c.requires.point c.requires.lowest (sym c.place_at.ensures ∙ c.in-Some.is)
+    IsListed-level (g.G.Heights.map c.args.grid.now) (g.met.G.Heights.whole c.args.grid.now) g.S.Side.NAME c.args.limit.now.percent.thousandths c.args.limit.now.sz
+    (pits_kept c.args.kept.now) c.requires.firm
+    c.args.lines.now (seen_of c.args.front.now.standing.items) c.args.front.now.ahead c.requires.shown
+    (heap_items c.args.front.now.low) c.args.point c.in-Some.from c.requires.front c.requires.point c.requires.lowest (sym c.place_at.ensures ∙ c.in-Some.is)
 
 -- the lines with that of the point
 longer : (g : Over) (c : In_ok-list_point g)
-    → c.list_point.new.lines ≡ c.args.lines.now ++ next_line (g.G.Heights.map c.args.grid.now) g.S.Side.NAME c.args.limit.now.percent.thousandths c.args.limit.now.sz (line_at c.args.lines.now c.in-Some.from) c.args.point ∷ []
+    → c.list_point.new.lines ≡ c.args.lines.now ++ next_line (g.G.Heights.map c.args.grid.now) g.S.Side.NAME c.args.limit.now.percent.thousandths c.args.limit.now.sz
+    (line_at c.args.lines.now c.in-Some.from) c.args.point ∷ []
 longer g c =
     let m = g.G.Heights.map c.args.grid.now in
     let t = c.args.limit.now.percent.thousandths in
@@ -43,7 +48,8 @@ list_point-requires-clause-point g c = subst (IsPoint (g.G.Heights.map c.args.gr
 
 pub list_point-requires-clause-cut : goal.list_point-requires-clause-cut
 list_point-requires-clause-cut g c =
-    subst (λ i. (k : ℕ) → (line_at c.args.lines.now i).cut ≡ Some k → IsPointAt (g.G.Heights.map c.args.grid.now) k) (sym c.new-next.ensures.from) (listed g (goal.at.list_point-requires-clause-cut g c).In-Some).cut
+    subst (λ i. (k : ℕ) → (line_at c.args.lines.now i).cut ≡ Some k → IsPointAt (g.G.Heights.map c.args.grid.now) k) (sym c.new-next.ensures.from)
+    (listed g (goal.at.list_point-requires-clause-cut g c).In-Some).cut
 
 pub list_low-requires-clause-shown : goal.list_low-requires-clause-shown
 list_low-requires-clause-shown g c =
@@ -62,10 +68,13 @@ list_low-requires-clause-front g c =
     let long : length lines + 1 ≡ length c.list_point.new.lines = (let more = length_push lines next in let same = ap length items in omega (arith, more, same)) in
     let new = c.list_point.new.front in
     subst (λ i. IsFront m side c.list_point.new.lines (Some c.args.point) (seen_of new.standing.items) new.ahead (heap_items new.low) i) long
-    (c.in_ok-list_point.ensures.spreads (subst (λ (ahead : List (Option ℕ)). IsFront m side c.list_point.new.lines (Some c.args.point) (seen_of front.standing.items) ahead (heap_items front.low) (length lines)) (sym cleared)
-    (subst (λ (xs : List AuditLine). IsFront m side xs (Some c.args.point) (seen_of front.standing.items) (set front.ahead c.args.point.index None) (heap_items front.low) (length lines)) (sym items) (listed g (goal.at.list_low-requires-clause-front g c).In-Some).front)))
+    (c.in_ok-list_point.ensures.spreads (subst (λ (ahead : List (Option ℕ)). IsFront m side c.list_point.new.lines (Some c.args.point) (seen_of front.standing.items) ahead
+    (heap_items front.low) (length lines)) (sym cleared)
+    (subst (λ (xs : List AuditLine). IsFront m side xs (Some c.args.point) (seen_of front.standing.items) (set front.ahead c.args.point.index None) (heap_items front.low)
+    (length lines)) (sym items) (listed g (goal.at.list_low-requires-clause-front g c).In-Some).front)))
 
 pub returns-clause-passed : goal.returns-clause-passed
 returns-clause-passed g c =
     let new = c.list_low.new.front in
-    ArePassed-level (g.G.Heights.map c.args.grid.now) g.S.Side.NAME c.list_low.new.lines c.args.point (seen_of new.standing.items) new.ahead (heap_items new.low) (length c.list_low.new.lines) c.in_ok-list_low.ensures.front
+    ArePassed-level (g.G.Heights.map c.args.grid.now) g.S.Side.NAME c.list_low.new.lines c.args.point (seen_of new.standing.items) new.ahead (heap_items new.low)
+    (length c.list_low.new.lines) c.in_ok-list_low.ensures.front

@@ -17,17 +17,22 @@ use Rattle.hd_audit.proofs.listing.list_low.Goals as goal
 use Rattle.hd_audit.proofs.listing.list_low.Goals.{After-position_of-at, In-Some}
 
 -- what is known of the lowest in the heap
-listed : (g : Over) (c : In-Some g) → IsListed (g.G.Heights.map c.args.grid.now) (g.met.G.Heights.whole c.args.grid.now) g.S.Side.NAME c.args.limit.now.percent.thousandths c.args.limit.now.sz (pits_kept c.args.kept.now) c.requires.firm
-    c.loop-next.lines (seen_of c.loop-next.front.standing.items) c.loop-next.front.ahead c.loop-next.invariant.shown c.args.level c.loop-next.front.ahead (heap_items c.pop.new.self) c.in-Some.next.from (rank_of_waiting c.in-Some.next)
+listed : (g : Over) (c : In-Some g) → IsListed (g.G.Heights.map c.args.grid.now) (g.met.G.Heights.whole c.args.grid.now) g.S.Side.NAME c.args.limit.now.percent.thousandths
+    c.args.limit.now.sz (pits_kept c.args.kept.now) c.requires.firm
+    c.loop-next.lines (seen_of c.loop-next.front.standing.items) c.loop-next.front.ahead c.loop-next.invariant.shown c.args.level c.loop-next.front.ahead
+    (heap_items c.pop.new.self) c.in-Some.next.from (rank_of_waiting c.in-Some.next)
 listed g c =
-    IsListed-low (g.G.Heights.map c.args.grid.now) (g.met.G.Heights.whole c.args.grid.now) g.S.Side.NAME c.args.limit.now.percent.thousandths c.args.limit.now.sz (pits_kept c.args.kept.now) c.requires.firm
-    c.loop-next.lines (seen_of c.loop-next.front.standing.items) c.loop-next.front.ahead c.loop-next.invariant.shown c.args.level (heap_items c.loop-next.front.low) (heap_items c.pop.new.self) c.in-Some.next
+    IsListed-low (g.G.Heights.map c.args.grid.now) (g.met.G.Heights.whole c.args.grid.now) g.S.Side.NAME c.args.limit.now.percent.thousandths c.args.limit.now.sz
+    (pits_kept c.args.kept.now) c.requires.firm
+    c.loop-next.lines (seen_of c.loop-next.front.standing.items) c.loop-next.front.ahead c.loop-next.invariant.shown c.args.level (heap_items c.loop-next.front.low)
+    (heap_items c.pop.new.self) c.in-Some.next
     c.loop-next.invariant.front c.in-Some.ensures.permutation (c.in-Some.ensures.heap_order c.loop-next.invariant.heap).1
 
 -- its index is that of its position
 stands : (g : Over) (c : After-position_of-at g) (point : IsPoint (g.G.Heights.map c.args.grid.now) (rank_of_waiting c.in-Some.next)) → c.position_of-at.result ≡ point.at
 stands g c point =
-    c.position_of-at.ensures.value ∙ ap (λ (s : Size). position_at s c.in-Some.next.index) c.size.ensures ∙ rank_position (g.G.Heights.map c.args.grid.now) (rank_of_waiting c.in-Some.next) point.at point.present point.rank_is
+    c.position_of-at.ensures.value ∙ ap (λ (s : Size). position_at s c.in-Some.next.index) c.size.ensures
+    ∙ rank_position (g.G.Heights.map c.args.grid.now) (rank_of_waiting c.in-Some.next) point.at point.present point.rank_is
 
 pub list_point-requires-clause-from : goal.list_point-requires-clause-from
 list_point-requires-clause-from g c = (listed g (goal.at.list_point-requires-clause-from g c).In-Some).before
@@ -43,7 +48,8 @@ list_point-requires-clause-cut g c = (listed g (goal.at.list_point-requires-clau
 
 pub position_of-at-requires : goal.position_of-at-requires
 position_of-at-requires g c =
-    subst (λ (s : Size). c.in-Some.next.index < cell_count s) (sym c.size.ensures) (point_inside (g.G.Heights.map c.args.grid.now) (rank_of_waiting c.in-Some.next) (listed g (goal.at.position_of-at-requires g c).In-Some).is_point)
+    subst (λ (s : Size). c.in-Some.next.index < cell_count s) (sym c.size.ensures)
+    (point_inside (g.G.Heights.map c.args.grid.now) (rank_of_waiting c.in-Some.next) (listed g (goal.at.position_of-at-requires g c).In-Some).is_point)
 
 pub list_point-requires-clause-present : goal.list_point-requires-clause-present
 list_point-requires-clause-present g c =
@@ -73,7 +79,8 @@ loop-next-preserved g c =
     record {
       shown = subst (λ (xs : List AuditLine). AreShownTo m side t sz kept xs (length xs)) (sym items) so.shown;
       front = subst (λ i. IsFront m side c.list_point.new.lines (Some c.args.level) (seen_of new.standing.items) new.ahead (heap_items new.low) i) long
-          (c.in_ok-list_point.ensures.spreads (subst (λ (xs : List AuditLine). IsFront m side xs (Some c.args.level) (seen_of front.standing.items) front.ahead (heap_items c.pop.new.self) (length lines)) (sym items) so.front));
+          (c.in_ok-list_point.ensures.spreads (subst (λ (xs : List AuditLine). IsFront m side xs (Some c.args.level) (seen_of front.standing.items) front.ahead
+          (heap_items c.pop.new.self) (length lines)) (sym items) so.front));
       standing = c.in_ok-list_point.ensures.standing;
       heap = c.in_ok-list_point.ensures.heap;
     }

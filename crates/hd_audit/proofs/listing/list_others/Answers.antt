@@ -67,14 +67,17 @@ loop-place-preserved g c =
     let moved : c.pass.new.standings.items ≡ set standing x (passed (standing_at standing x)) = c.pass.ensures in
     let same : seen_of c.pass.new.standings.items ≡ seen_of standing = ap seen_of moved ∙ seen_of-passed standing x in
     record {
-      next = subst (λ (xs : List ℕ). MatchOption c.placed_at-next-in-loop-place.result (length xs ≤ place + 1) (IsPlaced m xs (place + 1))) c.as_slice-in-loop-place.ensures.value c.placed_at-next-in-loop-place.ensures;
+      next = subst (λ (xs : List ℕ). MatchOption c.placed_at-next-in-loop-place.result (length xs ≤ place + 1) (IsPlaced m xs (place + 1))) c.as_slice-in-loop-place.ensures.value
+          c.placed_at-next-in-loop-place.ensures;
       shown = c.in_ok-list_from.ensures.shown;
       front = subst (λ (seen : List Bool). IsFrontAt m side c.list_from.new.lines seen new.ahead (heap_items new.low)) (sym same) c.in_ok-list_from.ensures.front;
-      passed = ArePassed-more m side new.ahead ranks place p.rank c.in_ok-points.ensures within (subst (λ (r : Rank). ArePassed m side new.ahead r) (AreInOrder-rank m points place p placed p.rank) c.in_ok-list_from.ensures.passed);
+      passed = ArePassed-more m side new.ahead ranks place p.rank c.in_ok-points.ensures within
+          (subst (λ (r : Rank). ArePassed m side new.ahead r) (AreInOrder-rank m points place p placed p.rank) c.in_ok-list_from.ensures.passed);
       standing = λ d more.
           let point : p.rank ≡ get_or ranks place d = AreInOrder-rank m points place p placed d in
           subst (λ (xs : List Standing). AreStanding m side (Some (get_or ranks (place + 1) d)) xs) (sym moved)
-          (AreStanding-next m side ranks c.in_ok-points.ensures standing place x d more (ap (λ (r : Rank). r.index) point) (subst (λ (r : Rank). AreStanding m side (Some r) standing) point c.in_ok-list_from.ensures.standing));
+          (AreStanding-next m side ranks c.in_ok-points.ensures standing place x d more (ap (λ (r : Rank). r.index) point)
+          (subst (λ (r : Rank). AreStanding m side (Some r) standing) point c.in_ok-list_from.ensures.standing));
       heap = c.in_ok-list_from.ensures.heap;
     }
 
@@ -82,6 +85,8 @@ pub returns : goal.returns
 returns g c =
     let m = g.G.Heights.map c.args.grid.now in
     let points : List ℕ = c.in_ok-points.points.items in
-    ArePassed-all m (g.met.G.Heights.whole c.args.grid.now) g.S.Side.NAME c.args.limit.now.percent.thousandths c.args.limit.now.sz (pits_kept c.args.kept.now) c.requires.firm c.loop-place.lines (seen_of c.loop-place.front.standing.items) c.loop-place.front.ahead
+    ArePassed-all m (g.met.G.Heights.whole c.args.grid.now) g.S.Side.NAME c.args.limit.now.percent.thousandths c.args.limit.now.sz
+    (pits_kept c.args.kept.now) c.requires.firm c.loop-place.lines (seen_of c.loop-place.front.standing.items) c.loop-place.front.ahead
     c.loop-place.invariant.shown (heap_items c.loop-place.front.low) (map (rank_at m) points) c.loop-place.invariant.front c.in_ok-points.ensures
-    (λ j d less. c.loop-place.invariant.passed j d (let past = c.loop-place-test.false in let is = c.len-place-end.ensures in let long = length-map points (rank_at m) in omega (arith, less, past, is, long, c.in_ok-points.points.ok.0)))
+    (λ j d less. c.loop-place.invariant.passed j d (let past = c.loop-place-test.false in let is = c.len-place-end.ensures in let long = length-map points (rank_at m) in omega
+    (arith, less, past, is, long, c.in_ok-points.points.ok.0)))

@@ -25,7 +25,9 @@ returns-clause-spreads g c =
     let items : c.push.new.self ≡ lines ++ line ∷ [] = c.in_ok-push.ensures.ok in
     let long : c.len-place.result < length c.push.new.self = (let longer = length_push lines line in let same = ap length items in omega (arith, longer, same, last)) in
     let index : line.index ≡ (rank_of_waiting c.args.next).index = ap (λ (x : AuditLine). x.index) c.line_of-line.ensures ∙ ap (λ (r : Rank). r.index) c.rank.ensures in
-    let is_at : point_at m c.push.new.self c.len-place.result ≡ c.args.at = ap (λ (xs : List AuditLine). point_at m xs c.len-place.result) items ∙ ap (λ (x : AuditLine). position_at m.size x.index) (line_at-push_new lines line c.len-place.result (sym last))
+    let is_at : point_at m c.push.new.self c.len-place.result ≡ c.args.at = ap (λ (xs : List AuditLine). point_at m xs c.len-place.result) items
+    ∙ ap (λ (x : AuditLine). position_at m.size x.index) (line_at-push_new lines line c.len-place.result (sym last))
     ∙ ap (position_at m.size) index ∙ rank_position m (rank_of_waiting c.args.next) c.args.at c.requires.present c.requires.at in
-    subst (λ i. IsFront m g.S.Side.NAME c.push.new.self (Some c.args.level) (seen_of old.standing.items) old.ahead (heap_items old.low) i → IsFront m g.S.Side.NAME c.push.new.self (Some c.args.level) (seen_of new.standing.items) new.ahead (heap_items new.low) (i + 1))
+    subst (λ i. IsFront m g.S.Side.NAME c.push.new.self (Some c.args.level) (seen_of old.standing.items) old.ahead (heap_items old.low) i
+    → IsFront m g.S.Side.NAME c.push.new.self (Some c.args.level) (seen_of new.standing.items) new.ahead (heap_items new.low) (i + 1))
     last (λ f. c.in_ok-spread.ensures.spreads c.push.new.self f long is_at)

@@ -16,5 +16,8 @@ returns-then-is_some g c =
     let lines = c.args.lines.now in
     let cut = ap (λ (x : AuditLine). x.cut) (sym c.at-line.ensures) ∙ c.in-Some.is in
     let parent = ap (λ (x : AuditLine). is_some x.parent) (sym c.at.ensures) ∙ sym c.is_some.ensures ∙ c.if-is_some.true in
-    subst (λ (o : Option ℕ). IsTrue false ↔ MatchOption o (Unit {0}) (IsCutOf m c.args.side lines (line_at lines c.args.k))) (sym cut)
-    (λ e. absurd (false≢true e), λ h. absurd (let none = place_at-kept m lines c.args.places.now c.requires.places c.in-Some.cut c.in-Some-place_at.place (sym c.in-Some-place_at.ensures) h.kept in false≢true (sym (ap is_some none) ∙ parent)))
+    subst (λ (o : Option ℕ). IsTrue false ↔ MatchOption o (Unit {0}) (IsCutOf m c.args.side lines (line_at lines c.args.k))) (sym cut) (
+      λ e. absurd (false≢true e),
+      λ h. absurd (let none = place_at-kept m lines c.args.places.now c.requires.places c.in-Some.cut c.in-Some-place_at.place
+          (sym c.in-Some-place_at.ensures) h.kept in false≢true (sym (ap is_some none) ∙ parent)),
+    )

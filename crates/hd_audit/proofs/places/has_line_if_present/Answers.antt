@@ -7,7 +7,11 @@ use Rattle.hd_audit.proofs.FailedTests.{test-negated}
 use Rattle.hd_audit.proofs.places.has_line_if_present.Goals as goal
 
 pub returns-in-Some : goal.returns-in-Some
-returns-in-Some g c = (λ t here. place_at-listed (g.G.Heights.map c.args.surface.now) c.args._lines.now c.args.places.now c.requires.places c.args.index c.in-Some.field-0 (sym c.in-Some.ensures), λ h. refl)
+returns-in-Some g c = (
+  λ t here. place_at-listed (g.G.Heights.map c.args.surface.now) c.args._lines.now c.args.places.now c.requires.places c.args.index c.in-Some.field-0
+      (sym c.in-Some.ensures),
+  λ h. refl,
+)
 
 pub returns-in-None : goal.returns-in-None
 returns-in-None g c =

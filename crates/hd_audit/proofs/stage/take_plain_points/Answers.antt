@@ -11,7 +11,8 @@ points-preserved c =
     let fewer = c.points.invariant.fewer in
     let counted = c.points.invariant.counted in
     record {
-      same = λ more. rw c.in_ok-push.ensures.ok (c.points.invariant.same more ∙ points_on-plain head c.points.lines c.points.left c.points.number c.points.rest.now c.in-Some.behind.now c.in-Some.line some begins more);
+      same = λ more. rw c.in_ok-push.ensures.ok (c.points.invariant.same more ∙ points_on-plain head c.points.lines c.points.left c.points.number c.points.rest.now
+          c.in-Some.behind.now c.in-Some.line some begins more);
       fewer = omega (arith, fewer, shorter);
       counted = omega (arith, counted, shorter);
     }

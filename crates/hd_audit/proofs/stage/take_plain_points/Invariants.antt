@@ -5,7 +5,8 @@ use Rattle.hd_audit.proofs.stage.take_plain_points.Given as goal
 
 abbrev pub invariant-points : goal.invariant-points
 invariant-points l = record {
-  same : (more : List (List (List ℕ))) → points_on l.head l.fn.points.lines l.fn.points.left (numbered l.fn.number (words_in l.fn.text ++ more)) ≡ points_on l.head l.lines l.left (numbered l.number (words_in l.rest ++ more));
+  same : (more : List (List (List ℕ))) → points_on l.head l.fn.points.lines l.fn.points.left (numbered l.fn.number (words_in l.fn.text ++ more))
+      ≡ points_on l.head l.lines l.left (numbered l.number (words_in l.rest ++ more));
   fewer : length l.rest ≤ length l.fn.text;
   counted : l.number + length l.rest ≤ l.fn.number + length l.fn.text;
 }

@@ -25,7 +25,8 @@ is_present-requires g c = at-inside (g.G.Heights.map c.args.grid.now).size c.siz
 pub position_after-at-requires : goal.position_after-at-requires
 position_after-at-requires g c = record {
   limits = rw c.size-size.ensures (g.met.G.Heights.whole c.args.grid.now).size;
-  in_grid = rw c.size-size.ensures (at-inside (g.G.Heights.map c.args.grid.now).size c.size-size.result c.loop-index.index c.loop-index.at c.size-size.ensures c.loop-index.invariant.at c.loop-index-test.true);
+  in_grid = rw c.size-size.ensures (at-inside (g.G.Heights.map c.args.grid.now).size c.size-size.result c.loop-index.index c.loop-index.at c.size-size.ensures
+      c.loop-index.invariant.at c.loop-index-test.true);
 }
 
 pub loop-index-preserved : goal.loop-index-preserved
@@ -38,7 +39,8 @@ loop-index-preserved g c =
     let there = at-inside m.size c.size-size.result n at c.size-size.ensures old.at c.loop-index-test.true in
     let next = at-next m.size c.size-size.result n at c.position_after-at.result c.size-size.ensures old.at c.position_after-at.ensures.column c.position_after-at.ensures.place in
     let inside : n < cell_count m.size = subst (λ (s : Size). n < cell_count s) c.size-size.ensures c.loop-index-test.true in
-    let is : IsTrue c.is_present.result ↔ Present m (position_at m.size n) = subst (λ (p : Pos). IsTrue c.is_present.result ↔ Present m p) (at-position m.size n at old.at there) c.is_present.ensures in
+    let is : IsTrue c.is_present.result ↔ Present m (position_at m.size n) = subst (λ (p : Pos). IsTrue c.is_present.result ↔ Present m p)
+    (at-position m.size n at old.at there) c.is_present.ensures in
     elim c.if-is_present.branch [
       | then-is_present w ↦ record {
         at = next;
@@ -46,6 +48,7 @@ loop-index-preserved g c =
       }
       | else-is_present w ↦ record {
         at = next;
-        made = subst (AreStandingTo m (n + 1)) (sym (ap (λ v. v.items) w.standings-is)) (AreStandingTo-absent m n standings inside old.made (λ here. let yes = is.1 here in let no = w.if-is_present.false in cc));
+        made = subst (AreStandingTo m (n + 1)) (sym (ap (λ v. v.items) w.standings-is))
+            (AreStandingTo-absent m n standings inside old.made (λ here. let yes = is.1 here in let no = w.if-is_present.false in cc));
       }
     ]

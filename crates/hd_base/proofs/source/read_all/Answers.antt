@@ -71,7 +71,8 @@ pub returns-then-is_err-2-clause-left : goal.returns-then-is_err-2-clause-left
 returns-then-is_err-2-clause-left g c = λ bytes told. record {
   whole = tt;
   too_long = λ n e. absurd (memory≢long n e);
-  few = inl (TakesFew-more bytes c.pieces.bytes.items c.read.new.into c.args.limit c.in-Ok.count _ _ _ told c.pieces.invariant.read c.in-Ok.ensures.bytes.0 (omega (arith, c.read.auto.into, length-take c.min-room.result c.pieces.piece)));
+  few = inl (TakesFew-more bytes c.pieces.bytes.items c.read.new.into c.args.limit c.in-Ok.count _ _ _ told c.pieces.invariant.read c.in-Ok.ensures.bytes.0
+      (omega (arith, c.read.auto.into, length-take c.min-room.result c.pieces.piece)));
 }
 
 pub returns-then-is_err-2-clause-open : goal.returns-then-is_err-2-clause-open
@@ -94,7 +95,8 @@ returns-then-count-eq0-clause-left g c = λ bytes told. record {
   whole = (pieces-whole bytes c.pieces.bytes.items c.read.new.into c.in-Ok.count _ _ _ told c.pieces.invariant.read c.in-Ok.ensures.bytes.0 c.if-count-eq0.true
       (c.in-Ok.ensures.bytes.1 c.if-count-eq0.true (omega (arith, c.read.auto.into, length-take c.min-room.result c.pieces.piece)))).1;
   too_long = λ n e. absurd (bytes≢long _ n e);
-  few = inl (TakesFew-more bytes c.pieces.bytes.items c.read.new.into c.args.limit c.in-Ok.count _ _ _ told c.pieces.invariant.read c.in-Ok.ensures.bytes.0 (omega (arith, c.read.auto.into, length-take c.min-room.result c.pieces.piece)));
+  few = inl (TakesFew-more bytes c.pieces.bytes.items c.read.new.into c.args.limit c.in-Ok.count _ _ _ told c.pieces.invariant.read c.in-Ok.ensures.bytes.0
+      (omega (arith, c.read.auto.into, length-take c.min-room.result c.pieces.piece)));
 }
 
 pub returns-then-count-eq0-clause-cause : goal.returns-then-count-eq0-clause-cause

@@ -11,16 +11,24 @@ use Rattle.hd_basin.proofs.Edges.{row-open, rows-closed}
 use Rattle.hd_basin.proofs.edge.is_edge.Goals as goal
 
 pub returns-then-lacks_one-clause-edge : goal.returns-then-lacks_one-clause-edge
-returns-then-lacks_one-clause-edge g c = λ e. row-open (g.G.Heights.map c.args._grid.now) g.S.Side.NAME (g.met.G.Heights.whole c.args._grid.now) c.args.at c.requires.present c.args.area c.args.ranks.now c.requires.ranks c.requires.at 0 _ (omega arith) (omega arith) (sym c.lacks_one.ensures ∙ c.if-lacks_one.true)
+returns-then-lacks_one-clause-edge g c = λ e. row-open (g.G.Heights.map c.args._grid.now) g.S.Side.NAME
+    (g.met.G.Heights.whole c.args._grid.now) c.args.at c.requires.present c.args.area c.args.ranks.now c.requires.ranks c.requires.at 0 _ (omega arith) (omega arith)
+    (sym c.lacks_one.ensures ∙ c.if-lacks_one.true)
 
 pub returns-then-lacks_one-2-clause-edge : goal.returns-then-lacks_one-2-clause-edge
-returns-then-lacks_one-2-clause-edge g c = λ e. row-open (g.G.Heights.map c.args._grid.now) g.S.Side.NAME (g.met.G.Heights.whole c.args._grid.now) c.args.at c.requires.present c.args.area c.args.ranks.now c.requires.ranks c.requires.at 1 _ (omega arith) (omega arith) (sym c.lacks_one-2.ensures ∙ c.if-lacks_one-2.true)
+returns-then-lacks_one-2-clause-edge g c = λ e. row-open (g.G.Heights.map c.args._grid.now) g.S.Side.NAME
+    (g.met.G.Heights.whole c.args._grid.now) c.args.at c.requires.present c.args.area c.args.ranks.now c.requires.ranks c.requires.at 1 _ (omega arith) (omega arith)
+    (sym c.lacks_one-2.ensures ∙ c.if-lacks_one-2.true)
 
 pub returns-clause-edge : goal.returns-clause-edge
-returns-clause-edge g c = λ e. row-open (g.G.Heights.map c.args._grid.now) g.S.Side.NAME (g.met.G.Heights.whole c.args._grid.now) c.args.at c.requires.present c.args.area c.args.ranks.now c.requires.ranks c.requires.at 2 _ (omega arith) (omega arith) (sym c.lacks_one-3.ensures ∙ e)
+returns-clause-edge g c = λ e. row-open (g.G.Heights.map c.args._grid.now) g.S.Side.NAME
+    (g.met.G.Heights.whole c.args._grid.now) c.args.at c.requires.present c.args.area c.args.ranks.now c.requires.ranks c.requires.at 2 _ (omega arith) (omega arith)
+    (sym c.lacks_one-3.ensures ∙ e)
 
 pub returns-clause-inner : goal.returns-clause-inner
-returns-clause-inner g c = λ e. rows-closed (g.G.Heights.map c.args._grid.now) g.S.Side.NAME (g.met.G.Heights.whole c.args._grid.now) c.args.at c.requires.present c.args.area c.args.ranks.now c.requires.ranks c.requires.at _ _ _ (omega arith) (omega arith) (omega arith) (sym c.lacks_one.ensures ∙ c.if-lacks_one.false) (sym c.lacks_one-2.ensures ∙ c.if-lacks_one-2.false) (sym c.lacks_one-3.ensures ∙ e)
+returns-clause-inner g c = λ e. rows-closed (g.G.Heights.map c.args._grid.now) g.S.Side.NAME
+    (g.met.G.Heights.whole c.args._grid.now) c.args.at c.requires.present c.args.area c.args.ranks.now c.requires.ranks c.requires.at _ _ _ (omega arith) (omega arith)
+    (omega arith) (sym c.lacks_one.ensures ∙ c.if-lacks_one.false) (sym c.lacks_one-2.ensures ∙ c.if-lacks_one-2.false) (sym c.lacks_one-3.ensures ∙ e)
 
 -- where all ranks are those of points, so are three side by side
 none-lacks : (side : SideName) (ranks : List Rank) (k : ℕ) → AreAllPoints side ranks → k + 2 < length ranks → lacks_one side ranks k ≡ false
@@ -44,5 +52,6 @@ returns-then-whole-clause-inner g c = λ e.
     let side = g.S.Side.NAME in
     let all = OnTrue_at c.if-whole.true c.requires.whole in
     let row = λ (v : ℕ) (low : v ≤ 2). none-lacks side ranks ((p.y - f.top + v) * (f.columns + 2) + (p.x - f.left)) all (inside-row f p v (length ranks) c.requires.at low c.requires.ranks.whole) in
-    rows-closed (g.G.Heights.map c.args._grid.now) side (g.met.G.Heights.whole c.args._grid.now) p c.requires.present f ranks c.requires.ranks c.requires.at _ _ _ (omega arith) (omega arith) (omega arith)
+    rows-closed (g.G.Heights.map c.args._grid.now) side (g.met.G.Heights.whole c.args._grid.now) p c.requires.present f ranks c.requires.ranks c.requires.at _ _ _ (omega arith)
+    (omega arith) (omega arith)
     (row 0 (omega arith)) (row 1 (omega arith)) (row 2 (omega arith))

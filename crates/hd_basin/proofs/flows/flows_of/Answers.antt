@@ -37,7 +37,8 @@ position_of-requires g c =
     let p : Pos = c.args.at in
     let first : ℕ = (p.y - f.top) * (f.columns + 2) + (p.x - f.left) in
     let low : Rank = c.lowest_round-lowest.result in
-    let low_is : low ≡ low_round side m.adjacency c.args.ranks.now (f.columns + 2) first = c.lowest_round-lowest.ensures ∙ ap (λ (s : Adjacency). low_round side s c.args.ranks.now (f.columns + 2) first) c.adjacency.ensures in
+    let low_is : low ≡ low_round side m.adjacency c.args.ranks.now (f.columns + 2) first = c.lowest_round-lowest.ensures
+    ∙ ap (λ (s : Adjacency). low_round side s c.args.ranks.now (f.columns + 2) first) c.adjacency.ensures in
     let of : IsLow m side (IsRound m.adjacency p) low = subst (IsLow m side (IsRound m.adjacency p)) (sym low_is) (lowest-at m side whole f c.args.ranks.now c.requires.ranks p c.requires.at) in
     subst (λ (s : Size). low.index < cell_count s) (sym c.size-size.ensures) (found_inside m side whole p c.requires.present low of)
 
@@ -50,7 +51,8 @@ returns-then-lowest-index_of g c =
     let p : Pos = c.args.at in
     let first : ℕ = (p.y - f.top) * (f.columns + 2) + (p.x - f.left) in
     let low : Rank = c.lowest_round-lowest.result in
-    let low_is : low ≡ low_round side m.adjacency c.args.ranks.now (f.columns + 2) first = c.lowest_round-lowest.ensures ∙ ap (λ (s : Adjacency). low_round side s c.args.ranks.now (f.columns + 2) first) c.adjacency.ensures in
+    let low_is : low ≡ low_round side m.adjacency c.args.ranks.now (f.columns + 2) first = c.lowest_round-lowest.ensures
+    ∙ ap (λ (s : Adjacency). low_round side s c.args.ranks.now (f.columns + 2) first) c.adjacency.ensures in
     let of : IsLow m side (IsRound m.adjacency p) low = subst (IsLow m side (IsRound m.adjacency p)) (sym low_is) (lowest-at m side whole f c.args.ranks.now c.requires.ranks p c.requires.at) in
     let same : low.index ≡ place_of m.size p = c.if-lowest-index_of.true ∙ c.index_of.ensures.value ∙ ap (λ (s : Size). place_of s p) c.size-size.ensures in
     (pit_found m side whole p c.requires.present low of same).1
@@ -64,7 +66,8 @@ returns-else-lowest-index_of g c =
     let p : Pos = c.args.at in
     let first : ℕ = (p.y - f.top) * (f.columns + 2) + (p.x - f.left) in
     let low : Rank = c.lowest_round-lowest.result in
-    let low_is : low ≡ low_round side m.adjacency c.args.ranks.now (f.columns + 2) first = c.lowest_round-lowest.ensures ∙ ap (λ (s : Adjacency). low_round side s c.args.ranks.now (f.columns + 2) first) c.adjacency.ensures in
+    let low_is : low ≡ low_round side m.adjacency c.args.ranks.now (f.columns + 2) first = c.lowest_round-lowest.ensures
+    ∙ ap (λ (s : Adjacency). low_round side s c.args.ranks.now (f.columns + 2) first) c.adjacency.ensures in
     let of : IsLow m side (IsRound m.adjacency p) low = subst (IsLow m side (IsRound m.adjacency p)) (sym low_is) (lowest-at m side whole f c.args.ranks.now c.requires.ranks p c.requires.at) in
     let other : low.index ≡ place_of m.size p → ⊥ = λ e. c.if-lowest-index_of.false (e ∙ ap (λ (s : Size). place_of s p) (sym c.size-size.ensures) ∙ sym c.index_of.ensures.value) in
     let q : Pos = c.position_of.result in

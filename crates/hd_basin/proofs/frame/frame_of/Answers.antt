@@ -23,7 +23,8 @@ returns-clause-holds c =
     let f : Frame = record { left = x.result.from; top = y.result.from; columns = x.result.count; rows = y.result.count } in
     frame_holds tiling.size tiling.side c.args.tile f (omega (arith, least))
     (rw c.size-size.ensures at x.ensures.fits) (rw (c.side.ensures, c.across-across.ensures) at x.ensures.from) (rw (c.size-size.ensures, c.side.ensures, c.across-across.ensures) at x.ensures.after)
-    (rw c.size-size.ensures at y.ensures.fits) (rw (c.side-2.ensures, c.across-across.ensures) at y.ensures.from) (rw (c.size-size.ensures, c.side-2.ensures, c.across-across.ensures) at y.ensures.after)
+    (rw c.size-size.ensures at y.ensures.fits) (rw (c.side-2.ensures, c.across-across.ensures) at y.ensures.from)
+    (rw (c.size-size.ensures, c.side-2.ensures, c.across-across.ensures) at y.ensures.after)
 
 pub returns-clause-only : goal.returns-clause-only
 returns-clause-only c =
@@ -36,6 +37,7 @@ returns-clause-only c =
     let x = c.stretch_of-x in
     let y = c.stretch_of-y in
     let f : Frame = record { left = x.result.from; top = y.result.from; columns = x.result.count; rows = y.result.count } in
-    frame_only s t c.args.tile f some wide (column_start (c.args.tile % tiles_across s t) s.points t some (mod_below c.args.tile (tiles_across s t) (omega (arith, wide)))) (part_start c.args.tile (tiles_across s t) s.profiles t some wide c.requires)
+    frame_only s t c.args.tile f some wide (column_start (c.args.tile % tiles_across s t) s.points t some (mod_below c.args.tile (tiles_across s t) (omega (arith, wide))))
+    (part_start c.args.tile (tiles_across s t) s.profiles t some wide c.requires)
     (rw (c.side.ensures, c.across-across.ensures) at x.ensures.from) (rw c.size-size.ensures at x.ensures.fits) (rw (c.side.ensures, c.across-across.ensures) at x.ensures.within)
     (rw (c.side-2.ensures, c.across-across.ensures) at y.ensures.from) (rw c.size-size.ensures at y.ensures.fits) (rw (c.side-2.ensures, c.across-across.ensures) at y.ensures.within)

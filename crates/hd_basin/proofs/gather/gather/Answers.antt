@@ -20,7 +20,9 @@ loop-row-init g c =
     let n : ℕ = f.columns * f.rows in
     let all : numbers ≡ replicate n no_node = c.in_ok-vec.ensures.items_if_clones_equal (λ _ e. e) in
     let zero : 0 * f.columns ≡ 0 = omega arith in
-    rw (c.new.ensures.items, c.in_ok-with_capacity.ensures.items, zero) (gathered-none (g.G.Heights.map c.args.grid.now) g.S.Side.NAME c.args.plot.tiling.side c.args.plot.tile f numbers (ap (λ (xs : List ℕ). length xs) all ∙ length-replicate n no_node) (none-there numbers n all))
+    rw (c.new.ensures.items, c.in_ok-with_capacity.ensures.items, zero) (gathered-none
+    (g.G.Heights.map c.args.grid.now) g.S.Side.NAME c.args.plot.tiling.side c.args.plot.tile f numbers (ap (λ (xs : List ℕ). length xs) all ∙ length-replicate n no_node)
+    (none-there numbers n all))
 
 pub returns : goal.returns
 returns g c =

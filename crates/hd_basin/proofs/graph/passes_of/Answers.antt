@@ -13,4 +13,5 @@ tiles-preserved g c =
     (ap (passes_in g.S.Side.NAME stock) (sym (get_or_from_slice_get stock c.tiles.tile part part at))) c.tiles.invariant c.in_ok-push_passes.ensures
 
 pub returns : goal.returns
-returns g c = (let count = c.count-tiles.ensures in let past = c.tiles-test.false in c.tiles.invariant ∙ flat-whole (passes_in g.S.Side.NAME c.args.stock.now) [] c.args.stock.now c.tiles.tile (omega (arith, count, past)))
+returns g c = (let count = c.count-tiles.ensures in let past = c.tiles-test.false in c.tiles.invariant
+    ∙ flat-whole (passes_in g.S.Side.NAME c.args.stock.now) [] c.args.stock.now c.tiles.tile (omega (arith, count, past)))

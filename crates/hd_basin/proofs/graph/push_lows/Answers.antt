@@ -12,4 +12,5 @@ numbers-preserved c =
     (c.as_low.ensures ∙ ap as_low (sym (get_or_from_slice_get nodes c.numbers.number node node c.node.ensures))) c.numbers.invariant c.in_ok-push.ensures.ok
 
 pub returns : goal.returns
-returns c = (let count = c.count-count.ensures in let past = c.numbers-test.false in c.numbers.invariant ∙ map-whole as_low c.args.lows.now c.args.part.now.nodes c.numbers.number (omega (arith, count, past)))
+returns c = (let count = c.count-count.ensures in let past = c.numbers-test.false in c.numbers.invariant
+    ∙ map-whole as_low c.args.lows.now c.args.part.now.nodes c.numbers.number (omega (arith, count, past)))

@@ -15,6 +15,7 @@ returns g c =
     let inside : List Pass = map (in_order side) (inner_passes part) in
     let across : List Pass = flat_map (pass_of side stock) part.seams in
     let first : c.push_inside.new.passes ≡ c.args.passes.now ++ inside = c.in_ok-push_inside.ensures in
-    let second : c.push_across.new.passes ≡ c.push_inside.new.passes ++ across = c.in_ok-push_across.ensures ∙ ap (λ (ss : List Seam). c.push_inside.new.passes ++ flat_map (pass_of side stock) ss) c.seams.ensures in
+    let second : c.push_across.new.passes ≡ c.push_inside.new.passes ++ across = c.in_ok-push_across.ensures
+    ∙ ap (λ (ss : List Seam). c.push_inside.new.passes ++ flat_map (pass_of side stock) ss) c.seams.ensures in
     let both : c.push_inside.new.passes ++ across ≡ c.args.passes.now ++ (inside ++ across) = ap (λ (vs : List Pass). vs ++ across) first ∙ append_assoc c.args.passes.now inside across in
     second ∙ both

@@ -7,7 +7,8 @@ use Rattle.hd_basin.proofs.inside.is_alone.Goals.{then-labels-place, else-labels
 
 pub bounds-labels-below-then-labels-below : goal.bounds-labels-below-then-labels-below
 bounds-labels-below-then-labels-below c =
-    let inside = alone-inside c.args.area c.args.labels.now c.args.at c.requires.whole (let column = c.if-column-area.false in omega (arith, column)) (let row = c.if-row-area.false in omega (arith, row)) in
+    let inside = alone-inside c.args.area c.args.labels.now c.args.at c.requires.whole (let column = c.if-column-area.false in omega (arith, column))
+    (let row = c.if-row-area.false in omega (arith, row)) in
     omega (arith, inside)
 
 pub bounds-labels-below-then-labels-below-2 : goal.bounds-labels-below-then-labels-below-2

@@ -7,7 +7,8 @@ use Rattle.hd_basin.proofs.inside.meet_point.Goals as goal
 pub returns-then-is_alone : goal.returns-then-is_alone
 returns-then-is_alone g c =
     let m = g.G.Heights.map c.args.grid.now in
-    met-by m g.S.Side.NAME c.args.plot.area c.args.labels.now (length c.args._nodes.now) (place_of_frame c.args.plot.area c.args.at) c.args.at c.requires.at refl c.args.meetings.now.lasts.items c.args.meetings.now.list.items
+    met-by m g.S.Side.NAME c.args.plot.area c.args.labels.now (length c.args._nodes.now)
+    (place_of_frame c.args.plot.area c.args.at) c.args.at c.requires.at refl c.args.meetings.now.lasts.items c.args.meetings.now.list.items
     (OnTrue_at c.if-is_alone.true c.is_alone.ensures) c.requires.before
 
 pub returns : goal.returns

@@ -24,13 +24,15 @@ meet_point-requires-clause-at g c = within c.args.plot.area c.args.row c.loop-co
 pub meet_point-requires-clause-before : goal.meet_point-requires-clause-before
 meet_point-requires-clause-before g c =
     let m = g.G.Heights.map c.args.grid.now in
-    subst (λ (k : ℕ). AreMet m g.S.Side.NAME c.args.plot.area c.args.labels.now (length c.args._nodes.now) k 0 c.loop-column.meetings.lasts.items c.loop-column.meetings.list.items) (sym (place-is c.args.plot.area c.args.row c.loop-column.column)) c.loop-column.invariant
+    subst (λ (k : ℕ). AreMet m g.S.Side.NAME c.args.plot.area c.args.labels.now (length c.args._nodes.now) k 0 c.loop-column.meetings.lasts.items c.loop-column.meetings.list.items)
+    (sym (place-is c.args.plot.area c.args.row c.loop-column.column)) c.loop-column.invariant
 
 pub loop-column-preserved : goal.loop-column-preserved
 loop-column-preserved g c =
     let m = g.G.Heights.map c.args.grid.now in
     let new = c.meet_point.new.meetings in
-    let next : place_of_frame c.args.plot.area (point c.args.plot.area c.args.row c.loop-column.column) + 1 ≡ c.args.row * c.args.plot.area.columns + (c.loop-column.column + 1) = (let e = place-is c.args.plot.area c.args.row c.loop-column.column in omega (arith, e)) in
+    let next : place_of_frame c.args.plot.area (point c.args.plot.area c.args.row c.loop-column.column) + 1 ≡ c.args.row * c.args.plot.area.columns
+    + (c.loop-column.column + 1) = (let e = place-is c.args.plot.area c.args.row c.loop-column.column in omega (arith, e)) in
     subst (λ (k : ℕ). AreMet m g.S.Side.NAME c.args.plot.area c.args.labels.now (length c.args._nodes.now) k 0 new.lasts.items new.list.items) next c.in_ok-meet_point.ensures
 
 pub returns : goal.returns
@@ -38,4 +40,5 @@ returns g c =
     let m = g.G.Heights.map c.args.grid.now in
     let done : c.loop-column.column ≡ c.args.plot.area.columns = omega arith in
     let last : c.args.row * c.args.plot.area.columns + c.loop-column.column ≡ (c.args.row + 1) * c.args.plot.area.columns = omega (arith, done) in
-    subst (λ (k : ℕ). AreMet m g.S.Side.NAME c.args.plot.area c.args.labels.now (length c.args._nodes.now) k 0 c.loop-column.meetings.lasts.items c.loop-column.meetings.list.items) last c.loop-column.invariant
+    subst (λ (k : ℕ). AreMet m g.S.Side.NAME c.args.plot.area c.args.labels.now (length c.args._nodes.now) k 0 c.loop-column.meetings.lasts.items c.loop-column.meetings.list.items)
+    last c.loop-column.invariant

@@ -12,23 +12,28 @@ returns-then-a-b g c = λ a b w is. (
     let m : Map = g.G.Heights.map c.args.grid.now in
     let least = c.args.plot.tiling.tile_side.least in
     let same : label_at c.args.plot.area c.args.labels.now c.args.at ≡ label_at c.args.plot.area c.args.labels.now c.args.near = sym c.label_in-a.ensures ∙ c.if-a-b.true ∙ c.label_in-b.ensures in
-    pair-equal m g.S.Side.NAME c.args.plot.tiling.side c.args.plot.tile c.args.plot.area (omega (arith, least)) c.requires.area c.args._nodes.now c.args.labels.now c.requires.named c.args.at c.args.near c.requires.at c.requires.near same a b w
+    pair-equal m g.S.Side.NAME c.args.plot.tiling.side c.args.plot.tile c.args.plot.area
+    (omega (arith, least)) c.requires.area c.args._nodes.now c.args.labels.now c.requires.named c.args.at c.args.near c.requires.at c.requires.near same a b w
     (subst (λ (n : ℕ). IsPairAt m g.S.Side.NAME c.args.plot.area c.args.labels.now n c.args.at c.args.near a b w) c.requires.count is))
 
 pub returns-then-a-count : goal.returns-then-a-count
 returns-then-a-count g c = λ a b w is. (
     let m : Map = g.G.Heights.map c.args.grid.now in
     let least = c.args.plot.tiling.tile_side.least in
-    let past : length c.args._nodes.now ≤ label_at c.args.plot.area c.args.labels.now c.args.at = (let e = c.label_in-a.ensures in let t = c.if-a-count.true in let n = c.requires.count in omega (arith, e, t, n)) in
-    pair-few m g.S.Side.NAME c.args.plot.tiling.side c.args.plot.tile c.args.plot.area (omega (arith, least)) c.requires.area c.args._nodes.now c.args.labels.now c.requires.named c.args.at c.args.near c.requires.at c.requires.near (inl past) a b w
+    let past : length c.args._nodes.now ≤ label_at c.args.plot.area c.args.labels.now c.args.at =
+    (let e = c.label_in-a.ensures in let t = c.if-a-count.true in let n = c.requires.count in omega (arith, e, t, n)) in
+    pair-few m g.S.Side.NAME c.args.plot.tiling.side c.args.plot.tile c.args.plot.area
+    (omega (arith, least)) c.requires.area c.args._nodes.now c.args.labels.now c.requires.named c.args.at c.args.near c.requires.at c.requires.near (inl past) a b w
     (subst (λ (n : ℕ). IsPairAt m g.S.Side.NAME c.args.plot.area c.args.labels.now n c.args.at c.args.near a b w) c.requires.count is))
 
 pub returns-then-b-count : goal.returns-then-b-count
 returns-then-b-count g c = λ a b w is. (
     let m : Map = g.G.Heights.map c.args.grid.now in
     let least = c.args.plot.tiling.tile_side.least in
-    let past : length c.args._nodes.now ≤ label_at c.args.plot.area c.args.labels.now c.args.near = (let e = c.label_in-b.ensures in let t = c.if-b-count.true in let n = c.requires.count in omega (arith, e, t, n)) in
-    pair-few m g.S.Side.NAME c.args.plot.tiling.side c.args.plot.tile c.args.plot.area (omega (arith, least)) c.requires.area c.args._nodes.now c.args.labels.now c.requires.named c.args.at c.args.near c.requires.at c.requires.near (inr past) a b w
+    let past : length c.args._nodes.now ≤ label_at c.args.plot.area c.args.labels.now c.args.near =
+    (let e = c.label_in-b.ensures in let t = c.if-b-count.true in let n = c.requires.count in omega (arith, e, t, n)) in
+    pair-few m g.S.Side.NAME c.args.plot.tiling.side c.args.plot.tile c.args.plot.area
+    (omega (arith, least)) c.requires.area c.args._nodes.now c.args.labels.now c.requires.named c.args.at c.args.near c.requires.at c.requires.near (inr past) a b w
     (subst (λ (n : ℕ). IsPairAt m g.S.Side.NAME c.args.plot.area c.args.labels.now n c.args.at c.args.near a b w) c.requires.count is))
 
 pub returns-then-not-are_beside : goal.returns-then-not-are_beside
@@ -47,7 +52,9 @@ returns-then-a-b-2 g c =
     let one : label_at c.args.plot.area c.args.labels.now c.args.at < length c.args._nodes.now = (let e = c.label_in-a.ensures in let t = c.if-a-count.false in omega (arith, e, t, n)) in
     let other : label_at c.args.plot.area c.args.labels.now c.args.near < length c.args._nodes.now = (let e = c.label_in-b.ensures in let t = c.if-b-count.false in omega (arith, e, t, n)) in
     let beside : AreBesideUnder m.adjacency c.args.at c.args.near = subst (λ (s : Adjacency). AreBesideUnder s c.args.at c.args.near) c.adjacency.ensures (c.if-not-are_beside.ensures.0 refl) in
-    let pair = pair-up m g.S.Side.NAME c.args.plot.tiling.side c.args.plot.tile c.args.plot.area (omega (arith, least)) c.requires.area c.args._nodes.now c.args.labels.now c.requires.named c.args.at c.args.near c.requires.at c.requires.near (g.met.G.Heights.whole c.args.grid.now)
+    let pair = pair-up m g.S.Side.NAME c.args.plot.tiling.side c.args.plot.tile c.args.plot.area
+    (omega (arith, least)) c.requires.area c.args._nodes.now c.args.labels.now c.requires.named c.args.at c.args.near c.requires.at c.requires.near
+    (g.met.G.Heights.whole c.args.grid.now)
     step.0 step.1 step.2 one other beside c.rank_in-here.result c.rank_in-there.result c.higher_of-higher.result c.rank_in-here.ensures c.rank_in-there.ensures c.higher_of-higher.ensures in
     record {
       near = pair.0;
@@ -68,7 +75,9 @@ returns-else-a-b-2 g c =
     let one : label_at c.args.plot.area c.args.labels.now c.args.at < length c.args._nodes.now = (let e = c.label_in-a.ensures in let t = c.if-a-count.false in omega (arith, e, t, n)) in
     let other : label_at c.args.plot.area c.args.labels.now c.args.near < length c.args._nodes.now = (let e = c.label_in-b.ensures in let t = c.if-b-count.false in omega (arith, e, t, n)) in
     let beside : AreBesideUnder m.adjacency c.args.at c.args.near = subst (λ (s : Adjacency). AreBesideUnder s c.args.at c.args.near) c.adjacency.ensures (c.if-not-are_beside.ensures.0 refl) in
-    let pair = pair-up m g.S.Side.NAME c.args.plot.tiling.side c.args.plot.tile c.args.plot.area (omega (arith, least)) c.requires.area c.args._nodes.now c.args.labels.now c.requires.named c.args.at c.args.near c.requires.at c.requires.near (g.met.G.Heights.whole c.args.grid.now)
+    let pair = pair-up m g.S.Side.NAME c.args.plot.tiling.side c.args.plot.tile c.args.plot.area
+    (omega (arith, least)) c.requires.area c.args._nodes.now c.args.labels.now c.requires.named c.args.at c.args.near c.requires.at c.requires.near
+    (g.met.G.Heights.whole c.args.grid.now)
     step.0 step.1 step.2 one other beside c.rank_in-here.result c.rank_in-there.result c.higher_of-higher.result c.rank_in-here.ensures c.rank_in-there.ensures c.higher_of-higher.ensures in
     record {
       near = pair.0;

@@ -35,7 +35,15 @@ returns-clause-built g c =
     let kept : List Seam = c.in_ok-kept.kept.items in
     let seams : List Seam = c.from_vec.result in
     let done : Part = record { seen = c.args.part.seen; nodes = c.args.part.nodes; labels = c.args.part.labels; joins = c.args.part.joins; seams = seams } in
-    let noded : IsNoded m g.S.Side.NAME t c.args.tile done = record { nodes = h.nodes; once = h.once; sinks = h.sinks; names = record { labels = h.names.labels; passes = h.names.passes }; labels = h.labels; passes = h.passes } in
+    let noded : IsNoded m g.S.Side.NAME t c.args.tile done = record {
+      nodes = h.nodes;
+      once = h.once;
+      sinks = h.sinks;
+      names =
+          record { labels = h.names.labels; passes = h.names.passes };
+      labels = h.labels;
+      passes = h.passes;
+    } in
     let keeps : KeepLowest g.S.Side.NAME all kept = subst (λ (xs : List Seam). KeepLowest g.S.Side.NAME xs kept) c.as_slice.ensures.value c.in_ok-kept.ensures in
     let places : f.rows * f.columns ≡ f.columns * f.rows = omega arith in
     let cand = subst (λ (n : ℕ). AreCandidates m g.S.Side.NAME t c.args.tile stamps (IsAsked m t c.args.tile stamps c.args.parts.now f n) all) places c.in_ok-all.ensures in

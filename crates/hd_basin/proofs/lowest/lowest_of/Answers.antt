@@ -17,4 +17,5 @@ pub returns : goal.returns
 returns g c =
     let all : List Seam = c.args.all.now in
     let whole : take c.loop-seam.seam-index all ≡ all = take_all c.loop-seam.seam-index all c.loop-seam-test.false in
-    lowest-kept g.S.Side.NAME all c.loop-seam.lowest c.list_values.ensures.ordered (subst (λ (xs : List Seam). HasLowest g.S.Side.NAME xs (get pair_cmp c.loop-seam.lowest)) whole c.loop-seam.invariant.0) c.in_ok-kept.kept.items c.in_ok-kept.ensures.values
+    lowest-kept g.S.Side.NAME all c.loop-seam.lowest c.list_values.ensures.ordered
+    (subst (λ (xs : List Seam). HasLowest g.S.Side.NAME xs (get pair_cmp c.loop-seam.lowest)) whole c.loop-seam.invariant.0) c.in_ok-kept.kept.items c.in_ok-kept.ensures.values

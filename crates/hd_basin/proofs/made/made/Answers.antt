@@ -13,7 +13,8 @@ use Rattle.hd_basin.proofs.IsNoded.{noded-kept}
 use Rattle.hd_basin.proofs.made.made.Goals as goal
 
 pub look-requires-clause-allowed : goal.look-requires-clause-allowed
-look-requires-clause-allowed g c = λ p within. c.requires.leave p (frame-in_grid c.args.tiling.size c.frame_of-frame.result p c.frame_of-frame.ensures.fits within) (c.frame_of-frame.ensures.only p within)
+look-requires-clause-allowed g c = λ p within. c.requires.leave p (frame-in_grid c.args.tiling.size c.frame_of-frame.result p c.frame_of-frame.ensures.fits within)
+    (c.frame_of-frame.ensures.only p within)
 
 pub joined-requires-clause-shows : goal.joined-requires-clause-shows
 joined-requires-clause-shows g c =
@@ -45,19 +46,24 @@ few : (columns rows t before after : ℕ) → columns ≤ t + 2 → rows ≤ t +
 few columns rows t before after wide high paid = (let product = mul-le columns rows (t + 2) (t + 2) wide high in omega (arith, product, paid))
 
 pub returns-clause-looks : goal.returns-clause-looks
-returns-clause-looks g c = few c.frame_of-frame.result.columns c.frame_of-frame.result.rows c.args.tiling.side c.args.looks.now c.look.new.looks c.frame_of-frame.ensures.columns c.frame_of-frame.ensures.rows c.look.ensures.counted
+returns-clause-looks g c = few c.frame_of-frame.result.columns c.frame_of-frame.result.rows c.args.tiling.side c.args.looks.now c.look.new.looks c.frame_of-frame.ensures.columns
+    c.frame_of-frame.ensures.rows c.look.ensures.counted
 
 pub returns-in_err-window-clause-looks : goal.returns-in_err-window-clause-looks
-returns-in_err-window-clause-looks g c = few c.frame_of-frame.result.columns c.frame_of-frame.result.rows c.args.tiling.side c.args.looks.now c.look.new.looks c.frame_of-frame.ensures.columns c.frame_of-frame.ensures.rows c.look.ensures.counted
+returns-in_err-window-clause-looks g c = few c.frame_of-frame.result.columns c.frame_of-frame.result.rows c.args.tiling.side c.args.looks.now c.look.new.looks
+    c.frame_of-frame.ensures.columns c.frame_of-frame.ensures.rows c.look.ensures.counted
 
 pub returns-in_err-part-clause-looks : goal.returns-in_err-part-clause-looks
-returns-in_err-part-clause-looks g c = few c.frame_of-frame.result.columns c.frame_of-frame.result.rows c.args.tiling.side c.args.looks.now c.look.new.looks c.frame_of-frame.ensures.columns c.frame_of-frame.ensures.rows c.look.ensures.counted
+returns-in_err-part-clause-looks g c = few c.frame_of-frame.result.columns c.frame_of-frame.result.rows c.args.tiling.side c.args.looks.now c.look.new.looks
+    c.frame_of-frame.ensures.columns c.frame_of-frame.ensures.rows c.look.ensures.counted
 
 pub returns-in_err-own-clause-looks : goal.returns-in_err-own-clause-looks
-returns-in_err-own-clause-looks g c = few c.frame_of-frame.result.columns c.frame_of-frame.result.rows c.args.tiling.side c.args.looks.now c.look.new.looks c.frame_of-frame.ensures.columns c.frame_of-frame.ensures.rows c.look.ensures.counted
+returns-in_err-own-clause-looks g c = few c.frame_of-frame.result.columns c.frame_of-frame.result.rows c.args.tiling.side c.args.looks.now c.look.new.looks
+    c.frame_of-frame.ensures.columns c.frame_of-frame.ensures.rows c.look.ensures.counted
 
 pub noded-requires-clause-holds : goal.noded-requires-clause-holds
-noded-requires-clause-holds g c = subst (λ (s : Size). HoldsRound s c.args.tiling.side c.args.tile c.frame_of-frame.result) (c.requires.size ∙ c.in_ok-window.ensures.shows.size) c.frame_of-frame.ensures.holds
+noded-requires-clause-holds g c = subst (λ (s : Size). HoldsRound s c.args.tiling.side c.args.tile c.frame_of-frame.result)
+    (c.requires.size ∙ c.in_ok-window.ensures.shows.size) c.frame_of-frame.ensures.holds
 
 pub joined-requires-clause-fits : goal.joined-requires-clause-fits
 joined-requires-clause-fits g c = subst (λ (s : Size). FitsGrid s c.frame_of-frame.result) c.requires.size c.frame_of-frame.ensures.fits

@@ -22,8 +22,10 @@ passes_inside-requires-clause-named g c =
     let f : Frame = c.area_of-area.result in
     let area : IsArea m.size t c.args.tile f = subst (λ (s : Size). IsArea s t c.args.tile f) c.requires.size c.area_of-area.ensures in
     let of = c.in_ok-nodes.field-0 in
-    let named = noded-named m g.S.Side.NAME t c.args.tile f (omega (arith, least)) area (area-small m.size t c.args.tile f c.args.tiling.tile_side.greatest area) of.nodes.items of.numbers.items of.labels.items c.in_ok-nodes.ensures in
-    subst (λ (xs : List Node). AreNamed m g.S.Side.NAME t f xs c.as_slice-5.result.now) (sym c.as_slice-6.ensures.value) (subst (λ (xs : List ℕ). AreNamed m g.S.Side.NAME t f of.nodes.items xs) (sym c.as_slice-5.ensures.value) named)
+    let named = noded-named m g.S.Side.NAME t c.args.tile f (omega (arith, least)) area
+    (area-small m.size t c.args.tile f c.args.tiling.tile_side.greatest area) of.nodes.items of.numbers.items of.labels.items c.in_ok-nodes.ensures in
+    subst (λ (xs : List Node). AreNamed m g.S.Side.NAME t f xs c.as_slice-5.result.now) (sym c.as_slice-6.ensures.value)
+    (subst (λ (xs : List ℕ). AreNamed m g.S.Side.NAME t f of.nodes.items xs) (sym c.as_slice-5.ensures.value) named)
 
 pub returns-clause-noded : goal.returns-clause-noded
 returns-clause-noded g c =
@@ -34,5 +36,6 @@ returns-clause-noded g c =
     let area : IsArea m.size t c.args.tile f = subst (λ (s : Size). IsArea s t c.args.tile f) c.requires.size c.area_of-area.ensures in
     let of = c.in_ok-nodes.field-0 in
     gathered-noded m g.S.Side.NAME t c.args.tile f (omega (arith, least)) area (area-small m.size t c.args.tile f c.args.tiling.tile_side.greatest area)
-    of.nodes.items of.numbers.items of.labels.items c.in_ok-nodes.ensures _ c.from_vec.ensures refl (subst (λ (xs : List Node). HasPasses m g.S.Side.NAME t c.args.tile (map (pass_named xs) c.in_ok-joins.joins)) c.as_slice-6.ensures.value c.in_ok-joins.ensures.passes)
+    of.nodes.items of.numbers.items of.labels.items c.in_ok-nodes.ensures _ c.from_vec.ensures refl
+    (subst (λ (xs : List Node). HasPasses m g.S.Side.NAME t c.args.tile (map (pass_named xs) c.in_ok-joins.joins)) c.as_slice-6.ensures.value c.in_ok-joins.ensures.passes)
     (subst (λ (xs : List Node). JoinBelow (length xs) c.in_ok-joins.joins) c.as_slice-6.ensures.value c.in_ok-joins.ensures.named)

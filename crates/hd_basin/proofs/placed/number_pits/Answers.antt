@@ -11,12 +11,14 @@ use Rattle.hd_basin.proofs.placed.number_pits.Goals as goal
 
 pub number_in_order-requires-clause-inside : goal.number_in_order-requires-clause-inside
 number_in_order-requires-clause-inside c = λ p at.
-    places-inside (all_nodes c.args.stock.now) c.in_ok-firsts.field-0.pits.items c.sort_unstable_by.new.self.items c.in_ok-firsts.field-0.numbers.items c.in_ok-firsts.ensures.nodes c.sort_unstable_by.ensures.permutation
+    places-inside (all_nodes c.args.stock.now) c.in_ok-firsts.field-0.pits.items c.sort_unstable_by.new.self.items c.in_ok-firsts.field-0.numbers.items c.in_ok-firsts.ensures.nodes
+    c.sort_unstable_by.ensures.permutation
     c.requires.apart c.requires.few p (subst (λ (ps : List PlacedPit). Contains ps p) c.deref.ensures.value at)
 
 pub number_in_order-requires-clause-few : goal.number_in_order-requires-clause-few
 number_in_order-requires-clause-few c =
-    let few = pits-few (all_nodes c.args.stock.now) c.in_ok-firsts.field-0.pits.items c.sort_unstable_by.new.self.items c.in_ok-firsts.field-0.numbers.items c.in_ok-firsts.ensures.nodes c.sort_unstable_by.ensures.permutation
+    let few = pits-few (all_nodes c.args.stock.now) c.in_ok-firsts.field-0.pits.items c.sort_unstable_by.new.self.items c.in_ok-firsts.field-0.numbers.items
+    c.in_ok-firsts.ensures.nodes c.sort_unstable_by.ensures.permutation
     c.requires.apart c.requires.few in
     let here : length c.deref.result.now ≡ length c.sort_unstable_by.new.self.items = ap length c.deref.ensures.value in
     omega (arith, few, here)
@@ -24,7 +26,8 @@ number_in_order-requires-clause-few c =
 pub number_in_order-requires-clause-apart : goal.number_in_order-requires-clause-apart
 number_in_order-requires-clause-apart c =
     subst (AllPairs (λ (p : PlacedPit) (q : PlacedPit). p.place ≢ q.place)) (sym c.deref.ensures.value)
-    (places-apart (all_nodes c.args.stock.now) c.in_ok-firsts.field-0.pits.items c.sort_unstable_by.new.self.items c.in_ok-firsts.field-0.numbers.items c.in_ok-firsts.ensures.nodes c.sort_unstable_by.ensures.permutation
+    (places-apart (all_nodes c.args.stock.now) c.in_ok-firsts.field-0.pits.items c.sort_unstable_by.new.self.items c.in_ok-firsts.field-0.numbers.items c.in_ok-firsts.ensures.nodes
+    c.sort_unstable_by.ensures.permutation
     c.requires.apart c.requires.few)
 
 pub returns : goal.returns

@@ -26,7 +26,8 @@ returns g c =
     let fresh : IsFresh stamps parts number = record { stamp = c.stamp-present.result; part = other; now = c.stamp-present.ensures; at = at; seen = seen } in
     let here : IsFresh stamps parts (tile_of m.size t c.args.at) = subst (IsFresh stamps parts) number_is fresh in
     let label = c.requires.sees.sight.fresh c.args.at c.requires.at here in
-    let named : IsLabel m g.S.Side.NAME t c.args.at (low_of (node_at (Some other) c.place_in_tile.result)) = subst (IsLabel m g.S.Side.NAME t c.args.at) (other-label m.size t parts c.args.at number c.place_in_tile.result other number_is place_is at) label in
+    let named : IsLabel m g.S.Side.NAME t c.args.at (low_of (node_at (Some other) c.place_in_tile.result)) = subst (IsLabel m g.S.Side.NAME t c.args.at)
+    (other-label m.size t parts c.args.at number c.place_in_tile.result other number_is place_is at) label in
     let own : IsLabel m g.S.Side.NAME t c.args.at (low_of (Some c.in_ok-node.node)) = subst (λ (o : Option Node). IsLabel m g.S.Side.NAME t c.args.at (low_of o)) (sym c.in_ok-node.ensures) named in
     record { known = here; present = own.0; sink = own.1; with_is = number_is; stamp = c.stamp-present.ensures }
 
@@ -46,6 +47,7 @@ returns-in_err-node g c =
     let fresh : IsFresh stamps parts number = record { stamp = c.stamp-present.result; part = other; now = c.stamp-present.ensures; at = at; seen = seen } in
     let here : IsFresh stamps parts (tile_of m.size t c.args.at) = subst (IsFresh stamps parts) number_is fresh in
     let label = c.requires.sees.sight.fresh c.args.at c.requires.at here in
-    let named : IsLabel m g.S.Side.NAME t c.args.at (low_of (node_at (Some other) c.place_in_tile.result)) = subst (IsLabel m g.S.Side.NAME t c.args.at) (other-label m.size t parts c.args.at number c.place_in_tile.result other number_is place_is at) label in
+    let named : IsLabel m g.S.Side.NAME t c.args.at (low_of (node_at (Some other) c.place_in_tile.result)) = subst (IsLabel m g.S.Side.NAME t c.args.at)
+    (other-label m.size t parts c.args.at number c.place_in_tile.result other number_is place_is at) label in
     let none : IsLabel m g.S.Side.NAME t c.args.at (low_of None) = subst (λ (o : Option Node). IsLabel m g.S.Side.NAME t c.args.at (low_of o)) (sym c.in_err-node.ensures) named in
     subst (EndIs m g.S.Side.NAME t stamps parts c.args.at) (sym c.from_residual.ensures) (λ known present. none present)

@@ -45,7 +45,8 @@ rank_of-requires g c =
 pub places-init : goal.places-init
 places-init g c =
     let v = c.args.sight.now in
-    pairs-begin (g.T.Looked.map v.tiles.now) g.S.Side.NAME v.tiling.side v.tile (g.T.Looked.stamps v.tiles.now) v.parts.now v.frame c.args._place c.beside_in-beside.result c.args.all.now.items c.requires.before
+    pairs-begin (g.T.Looked.map v.tiles.now) g.S.Side.NAME v.tiling.side v.tile (g.T.Looked.stamps v.tiles.now) v.parts.now v.frame c.args._place c.beside_in-beside.result
+    c.args.all.now.items c.requires.before
 
 pub note_pair-requires-clause-here : goal.note_pair-requires-clause-here
 note_pair-requires-clause-here g c = ((c.beside_in-beside.ensures.each c.position_in-here.result).0 c.position_in-here.ensures.in_frame).0
@@ -67,7 +68,8 @@ note_pair-requires-clause-rank g c =
 pub places-preserved : goal.places-preserved
 places-preserved g c =
     let v = c.args.sight.now in
-    pairs-more (g.T.Looked.map v.tiles.now) g.S.Side.NAME v.tiling.side v.tile (g.T.Looked.stamps v.tiles.now) v.parts.now v.frame c.args._place c.beside_in-beside.result c.places.place c.position_in-here.result c.args.near
+    pairs-more (g.T.Looked.map v.tiles.now) g.S.Side.NAME v.tiling.side v.tile (g.T.Looked.stamps v.tiles.now) v.parts.now v.frame c.args._place c.beside_in-beside.result
+    c.places.place c.position_in-here.result c.args.near
     c.places.all.items c.note_pair.new.all.items c.position_in-here.ensures.value c.requires.place c.in_ok-note_pair.ensures c.places.invariant
 
 pub returns : goal.returns

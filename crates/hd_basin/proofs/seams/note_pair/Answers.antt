@@ -32,22 +32,29 @@ place_in-requires-clause-few g c =
     area-small m.size v.tiling.side v.tile v.area v.tiling.tile_side.greatest c.requires.sees.area_is
 
 -- the label of a point of the tile
-label : (m : Map) (side : SideName) (t tile : ℕ) (part : Part) (f : Frame) (p : Pos) (place : ℕ) (o : Option Node) → 1 ≤ t → IsArea m.size t tile f → IsNoded m side t tile part → InFrame f p → at_place f place ≡ p → o ≡ node_at (Some part) place → IsLabel m side t p (low_of o)
+label : (m : Map) (side : SideName) (t tile : ℕ) (part : Part) (f : Frame) (p : Pos) (place : ℕ) (o : Option Node) → 1 ≤ t → IsArea m.size t tile f → IsNoded m side t tile part
+    → InFrame f p → at_place f place ≡ p → o ≡ node_at (Some part) place → IsLabel m side t p (low_of o)
 label m side t tile part f p place o some area noded within at node =
     let is = place-of-at f place p at ∙ sym (area-place m.size t tile f some area p within) in
-    subst (λ (x : Option Node). IsLabel m side t p (low_of x)) (sym (node ∙ ap (node_at (Some part)) is)) (noded.labels p (area-grid m.size t tile f some area p within) (area-tile m.size t tile f some area p within))
+    subst (λ (x : Option Node). IsLabel m side t p (low_of x)) (sym (node ∙ ap (node_at (Some part)) is))
+    (noded.labels p (area-grid m.size t tile f some area p within) (area-tile m.size t tile f some area p within))
 
 pub returns-in_default : goal.returns-in_default
 returns-in_default g c =
     let v = c.args.sight.now in
     let m : Map = g.T.Looked.map v.tiles.now in
     let least = v.tiling.tile_side.least in
-    let absent = label m g.S.Side.NAME v.tiling.side v.tile v.part.now v.area c.args.here c.place_in.result None (omega (arith, least)) c.requires.sees.area_is c.requires.sees.sight.noded c.requires.here c.place_in.ensures.at (sym c.in_default.is ∙ c.node_at.ensures) in
+    let absent = label m g.S.Side.NAME v.tiling.side v.tile v.part.now v.area c.args.here c.place_in.result None
+    (omega (arith, least)) c.requires.sees.area_is c.requires.sees.sight.noded c.requires.here c.place_in.ensures.at (sym c.in_default.is ∙ c.node_at.ensures) in
     inl (refl, λ a b near from to apart known. absent near.from)
 
 pub returns-then-not-are_beside : goal.returns-then-not-are_beside
 returns-then-not-are_beside g c =
-    inl (refl, λ a b near from to apart known. false≢true (c.if-not-are_beside.ensures.1 (subst (λ (s : Adjacency). AreBesideUnder s c.args.here c.args.near.0) (c.requires.sees.shows.adjacency ∙ sym c.adjacency.ensures) near.beside)))
+    inl (
+      refl,
+      λ a b near from to apart known. false≢true (c.if-not-are_beside.ensures.1
+          (subst (λ (s : Adjacency). AreBesideUnder s c.args.here c.args.near.0) (c.requires.sees.shows.adjacency ∙ sym c.adjacency.ensures) near.beside)),
+    )
 
 -- the point of the tile is shown
 seen : (m n : Map) (t tile : ℕ) (p : Pos) → ShowSame m n t tile → tile_of m.size t p ≡ tile → Present m p → Present n p × (rank m p ≡ rank n p)
@@ -59,7 +66,8 @@ rank_of-requires g c =
     let m : Map = g.T.Looked.map v.tiles.now in
     let n : Map = g.G.Heights.map v.window.now in
     let least = v.tiling.tile_side.least in
-    let own = label m g.S.Side.NAME v.tiling.side v.tile v.part.now v.area c.args.here c.place_in.result (Some c.in-Some.own) (omega (arith, least)) c.requires.sees.area_is c.requires.sees.sight.noded c.requires.here c.place_in.ensures.at (sym c.in-Some.is ∙ c.node_at.ensures) in
+    let own = label m g.S.Side.NAME v.tiling.side v.tile v.part.now v.area c.args.here c.place_in.result (Some c.in-Some.own)
+    (omega (arith, least)) c.requires.sees.area_is c.requires.sees.sight.noded c.requires.here c.place_in.ensures.at (sym c.in-Some.is ∙ c.node_at.ensures) in
     (seen m n v.tiling.side v.tile c.args.here c.requires.sees.shows (area-tile m.size v.tiling.side v.tile v.area (omega (arith, least)) c.requires.sees.area_is c.args.here c.requires.here) own.0).0
 
 pub returns-in_default-seam_between : goal.returns-in_default-seam_between
@@ -69,7 +77,8 @@ returns-in_default-seam_between g c =
     let t : ℕ = v.tiling.side in
     let e = c.requires.end in
     let least = v.tiling.tile_side.least in
-    let own = label m g.S.Side.NAME t v.tile v.part.now v.area c.args.here c.place_in.result (Some c.in-Some.own) (omega (arith, least)) c.requires.sees.area_is c.requires.sees.sight.noded c.requires.here c.place_in.ensures.at (sym c.in-Some.is ∙ c.node_at.ensures) in
+    let own = label m g.S.Side.NAME t v.tile v.part.now v.area c.args.here c.place_in.result (Some c.in-Some.own)
+    (omega (arith, least)) c.requires.sees.area_is c.requires.sees.sight.noded c.requires.here c.place_in.ensures.at (sym c.in-Some.is ∙ c.node_at.ensures) in
     let same : c.in-Some.own.low ≡ c.args.end.low = c.in_default-seam_between.ensures in
     inl (
       refl,
@@ -86,7 +95,8 @@ returns g c =
     let stamps : List ℕ = g.T.Looked.stamps v.tiles.now in
     let e = c.requires.end in
     let least = v.tiling.tile_side.least in
-    let own = label m g.S.Side.NAME t v.tile v.part.now v.area c.args.here c.place_in.result (Some c.in-Some.own) (omega (arith, least)) c.requires.sees.area_is c.requires.sees.sight.noded c.requires.here c.place_in.ensures.at (sym c.in-Some.is ∙ c.node_at.ensures) in
+    let own = label m g.S.Side.NAME t v.tile v.part.now v.area c.args.here c.place_in.result (Some c.in-Some.own)
+    (omega (arith, least)) c.requires.sees.area_is c.requires.sees.sight.noded c.requires.here c.place_in.ensures.at (sym c.in-Some.is ∙ c.node_at.ensures) in
     let at : tile_of m.size t c.args.here ≡ v.tile = area-tile m.size t v.tile v.area (omega (arith, least)) c.requires.sees.area_is c.args.here c.requires.here in
     let rank_is : c.rank_of.result ≡ rank m c.args.here = c.rank_of.ensures ∙ sym (seen m n t v.tile c.args.here c.requires.sees.shows at own.0).1 in
     let s : Seam = c.in-Some-seam_between.seam in

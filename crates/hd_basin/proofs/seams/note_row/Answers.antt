@@ -39,7 +39,8 @@ in-tile s t tile area frame i some is span low high j from to =
     let x : ℕ = j - i * frame.columns in
     let sum : i * frame.columns + x ≡ j = omega (arith, from) in
     let at : at_place frame j ≡ record { x = frame.left + x; y = frame.top + i } = ap (at_place frame) (sym sum) ∙ place-at frame i x (omega (arith, to, left, right, sum)) in
-    ap (tile_of s t) at ∙ area-tile s t tile area some is (record { x = frame.left + x; y = frame.top + i }) (record { left = omega (arith, from, left, sum); right = omega (arith, to, left, sum); top = low; bottom = high })
+    ap (tile_of s t) at ∙ area-tile s t tile area some is (record { x = frame.left + x; y = frame.top + i })
+    (record { left = omega (arith, from, left, sum); right = omega (arith, to, left, sum); top = low; bottom = high })
 
 pub note_stretch-requires-clause-before : goal.note_stretch-requires-clause-before
 note_stretch-requires-clause-before g c =
@@ -96,7 +97,8 @@ note_stretch-requires-3-clause-before g c =
     let high : v.frame.top + c.args.row < v.area.top + v.area.rows = omega arith in
     let s = spans m.size t v.tile v.area v.frame (v.frame.top + c.args.row) some c.requires.sees.area_is c.requires.sees.holds low high in
     let inside = in-tile m.size t v.tile v.area v.frame c.args.row some c.requires.sees.area_is s low high in
-    pairs-skip m g.S.Side.NAME t v.tile stamps v.parts.now v.frame (c.args.row * v.frame.columns + (v.area.left - v.frame.left)) (c.args.row * v.frame.columns + (v.area.left - v.frame.left + v.area.columns)) c.note_stretch-2.new.all.items (omega arith)
+    pairs-skip m g.S.Side.NAME t v.tile stamps v.parts.now v.frame (c.args.row * v.frame.columns + (v.area.left - v.frame.left))
+    (c.args.row * v.frame.columns + (v.area.left - v.frame.left + v.area.columns)) c.note_stretch-2.new.all.items (omega arith)
     (λ j from to known here. c.requires.sees.stale (subst (λ (n : ℕ). IsFresh stamps v.parts.now n) (inside j from to) known)) c.in_ok-note_stretch-2.ensures
 
 pub returns : goal.returns
@@ -105,4 +107,5 @@ returns g c =
     let m : Map = g.T.Looked.map v.tiles.now in
     let stamps : List ℕ = g.T.Looked.stamps v.tiles.now in
     let ends : c.args.row * v.frame.columns + v.frame.columns ≡ (c.args.row + 1) * v.frame.columns = omega arith in
-    subst (λ (k : ℕ). AreCandidates m g.S.Side.NAME v.tiling.side v.tile stamps (IsAsked m v.tiling.side v.tile stamps v.parts.now v.frame k) c.note_stretch-3.new.all.items) ends c.in_ok-note_stretch-3.ensures
+    subst (λ (k : ℕ). AreCandidates m g.S.Side.NAME v.tiling.side v.tile stamps (IsAsked m v.tiling.side v.tile stamps v.parts.now v.frame k) c.note_stretch-3.new.all.items) ends
+    c.in_ok-note_stretch-3.ensures

@@ -12,4 +12,5 @@ returns g c =
     let stamps : List ℕ = g.T.Looked.stamps v.tiles.now in
     let up = c.requires.from in
     let column : c.loop-column.column ≡ c.args.to = omega (arith, up) in
-    subst (λ (k : ℕ). AreCandidates m g.S.Side.NAME t v.tile stamps (IsAsked m t v.tile stamps v.parts.now v.frame (c.args.row * v.frame.columns + k)) c.loop-column.all.items) column c.loop-column.invariant
+    subst (λ (k : ℕ). AreCandidates m g.S.Side.NAME t v.tile stamps (IsAsked m t v.tile stamps v.parts.now v.frame (c.args.row * v.frame.columns + k)) c.loop-column.all.items)
+    column c.loop-column.invariant

@@ -10,4 +10,5 @@ returns g c =
     let m : Map = g.T.Looked.map v.tiles.now in
     let stamps : List ℕ = g.T.Looked.stamps v.tiles.now in
     let row : c.loop-row.row ≡ v.frame.rows = omega arith in
-    subst (λ (k : ℕ). AreCandidates m g.S.Side.NAME v.tiling.side v.tile stamps (IsAsked m v.tiling.side v.tile stamps v.parts.now v.frame (k * v.frame.columns)) c.loop-row.all.items) row c.loop-row.invariant
+    subst (λ (k : ℕ). AreCandidates m g.S.Side.NAME v.tiling.side v.tile stamps (IsAsked m v.tiling.side v.tile stamps v.parts.now v.frame (k * v.frame.columns))
+    c.loop-row.all.items) row c.loop-row.invariant

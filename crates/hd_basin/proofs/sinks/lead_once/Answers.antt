@@ -9,7 +9,8 @@ bounds-links-onward g c =
     let takes : Takes links c.args.place c.if-link.onward = elim c.if-link.branch [ then-link w ↦ inl (w.if-link.true, w.onward-is) | else-link w ↦ inr (w.if-link.false, w.onward-is) ] in
     let whole = c.requires.links.all.whole in
     let inside = c.requires.inside in
-    let on = (link_after (g.G.Heights.map c.args._grid.now) g.S.Side.NAME c.args._tiling.side c.args._area links c.requires.links c.args.place c.if-link.onward (omega (arith, whole, inside)) takes).0 in
+    let on = (link_after (g.G.Heights.map c.args._grid.now) g.S.Side.NAME c.args._tiling.side c.args._area links c.requires.links c.args.place c.if-link.onward
+    (omega (arith, whole, inside)) takes).0 in
     omega (arith, on, whole)
 
 pub returns : goal.returns

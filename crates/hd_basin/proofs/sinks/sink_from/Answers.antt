@@ -10,11 +10,13 @@ walk-init g c =
 
 pub walk-smaller : goal.walk-smaller
 walk-smaller g c =
-    (way_more (g.G.Heights.map c.args._grid.now) g.S.Side.NAME c.args._tiling.side c.args._area c.args.links.now c.requires.links (g.met.G.Heights.whole c.args._grid.now) c.args.start c.walk.here c.walk.invariant c.if-onward-here.false).1
+    (way_more (g.G.Heights.map c.args._grid.now) g.S.Side.NAME c.args._tiling.side c.args._area c.args.links.now c.requires.links
+    (g.met.G.Heights.whole c.args._grid.now) c.args.start c.walk.here c.walk.invariant c.if-onward-here.false).1
 
 pub walk-preserved : goal.walk-preserved
 walk-preserved g c =
-    (way_more (g.G.Heights.map c.args._grid.now) g.S.Side.NAME c.args._tiling.side c.args._area c.args.links.now c.requires.links (g.met.G.Heights.whole c.args._grid.now) c.args.start c.walk.here c.walk.invariant c.if-onward-here.false).0
+    (way_more (g.G.Heights.map c.args._grid.now) g.S.Side.NAME c.args._tiling.side c.args._area c.args.links.now c.requires.links
+    (g.met.G.Heights.whole c.args._grid.now) c.args.start c.walk.here c.walk.invariant c.if-onward-here.false).0
 
 pub returns-then-onward-here : goal.returns-then-onward-here
 returns-then-onward-here g c =

@@ -38,7 +38,8 @@ nodes-preserved c =
     let long = c.push_reserved.ensures.len in
     let wide = c.push_reserved.ensures.capacity in
     record {
-      put = put-next c.args.slab.now c.nodes.slab c.insert_reserved-key.new.self c.nodes.keys.items c.push_reserved.new.self.items c.args.nodes.now c.nodes.node-index _ c.insert_reserved-key.result c.nodes-test.true i.put c.insert_reserved-key.ensures.was_vacant c.insert_reserved-key.ensures.updates c.push_reserved.ensures.items;
+      put = put-next c.args.slab.now c.nodes.slab c.insert_reserved-key.new.self c.nodes.keys.items c.push_reserved.new.self.items c.args.nodes.now c.nodes.node-index _
+          c.insert_reserved-key.result c.nodes-test.true i.put c.insert_reserved-key.ensures.was_vacant c.insert_reserved-key.ensures.updates c.push_reserved.ensures.items;
       room = omega (arith, room, len, capacity);
       list = omega (arith, list, wide);
       count = omega (arith, count, long);

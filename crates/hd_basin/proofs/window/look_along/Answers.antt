@@ -22,5 +22,6 @@ loop-column-preserved g c =
     let height = c.look-height.ensures.height ∙ ap (height_at m) (sym (place-at f c.args.row c.loop-column.column c.loop-column-test.true)) in
     record {
       counted = omega (arith, c.look-height.ensures.counted, c.loop-column.invariant.counted);
-      filled = subst (λ (k : ℕ). AreFilled m f k c.push.new.self.items) next (rw c.in_ok-push.ensures.items (filled_more m f n c.loop-column.heights.items c.look-height.result c.loop-column.invariant.filled height));
+      filled = subst (λ (k : ℕ). AreFilled m f k c.push.new.self.items) next (rw c.in_ok-push.ensures.items
+          (filled_more m f n c.loop-column.heights.items c.look-height.result c.loop-column.invariant.filled height));
     }

@@ -16,7 +16,11 @@ pub overflow_mul-index-end : goal.overflow_mul-index-end
 overflow_mul-index-end c = omega (arith, c.requires.limits.cells)
 
 pub loop-index-init : goal.loop-index-init
-loop-index-init c = (at-first c.args.size (record { x = 0; y = 0 }) refl refl c.requires.limits.some_points, rw c.in_ok-found.ensures.items (AreListed-none c.args.size (IsReached c.args.size c.args.residues.now)))
+loop-index-init c = (
+  at-first c.args.size (record { x = 0; y = 0 }) refl refl c.requires.limits.some_points,
+  rw c.in_ok-found.ensures.items
+      (AreListed-none c.args.size (IsReached c.args.size c.args.residues.now)),
+)
 
 pub loop-index-preserved : goal.loop-index-preserved
 loop-index-preserved c =

@@ -27,6 +27,9 @@ returns g c =
     let known = c.in_ok-residues.ensures in
     let steps = known.steps in
     let begin = steps_at-begin m side saddle from to steps known.are r.here r.there r.saddle in
-    let leads : LeadsDown m c.as_slice.result.now from to steps begin.0 = LeadsDown-goes_nearer m side saddle from to steps known.are r.here r.there r.saddle c.as_slice.result.now begin.0 (subst (λ (rs : List Residue). (p : Pos) → InGrid m.size p → residue_at m.size rs p ≡ residue_of (steps_at m.size steps p)) (sym c.as_slice.ensures.value) known.read) begin.1 in
-    IfOk-map (λ path. (steps : List (Option ℕ)) (count : ℕ) → LeadsDown m c.as_slice.result.now from to steps count → GoesNearer m steps from count path count) (IsShownRoute m side from to saddle) c.path_down.result
+    let leads : LeadsDown m c.as_slice.result.now from to steps begin.0 = LeadsDown-goes_nearer m side saddle from to steps known.are r.here r.there r.saddle c.as_slice.result.now
+    begin.0 (subst (λ (rs : List Residue). (p : Pos) → InGrid m.size p → residue_at m.size rs p ≡ residue_of (steps_at m.size steps p))
+    (sym c.as_slice.ensures.value) known.read) begin.1 in
+    IfOk-map (λ path. (steps : List (Option ℕ)) (count : ℕ) → LeadsDown m c.as_slice.result.now from to steps count → GoesNearer m steps from count path count)
+    (IsShownRoute m side from to saddle) c.path_down.result
     (λ path goes. IsShownRoute-path m side saddle from to steps known.are r.here r.there r.saddle path begin.0 begin.1 (goes steps begin.0 leads)) c.path_down.ensures

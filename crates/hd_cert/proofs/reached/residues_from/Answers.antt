@@ -30,6 +30,7 @@ returns g c =
       whole = known.whole;
       read = λ p there.
           (let i = place_of m.size p in
-          let before : get_or c.in_ok-residues.residues.items i Unreached ≡ Unreached = ap (λ (rs : List Residue). get_or rs i Unreached) blank ∙ replicate-all Unreached (c.size-size.result.profiles * c.size-size.result.points) i in
+          let before : get_or c.in_ok-residues.residues.items i Unreached ≡ Unreached = ap (λ (rs : List Residue). get_or rs i Unreached) blank
+          ∙ replicate-all Unreached (c.size-size.result.profiles * c.size-size.result.points) i in
           known.read p there ∙ marked-residues c.in_ok-residues.residues.items (get_or c.in_ok-residues.residues.items i Unreached) (steps_at m.size known.steps p) before);
     }

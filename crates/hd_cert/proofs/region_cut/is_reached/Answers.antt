@@ -14,8 +14,11 @@ place g c = c.index_of.ensures.value ∙ ap (λ (s : Size). place_of s c.args.at
 pub returns-in_default : goal.returns-in_default
 returns-in_default g c =
     let r = c.requires in
-    let at = place g (goal.at.returns-in_default g c).After-index_of in
-    (λ t. absurd (false≢true t), λ w. absurd (IsReachedLow-none (g.G.Heights.map c.args.grid.now) g.S.Side.NAME c.args.saddle c.args.regions.now r.regions c.args.from c.args.reached.now r.reached r.low c.args.at c.index_of.result at (sym c.number.ensures ∙ c.in_default.is) w))
+    let at = place g (goal.at.returns-in_default g c).After-index_of in (
+      λ t. absurd (false≢true t),
+      λ w. absurd (IsReachedLow-none (g.G.Heights.map c.args.grid.now) g.S.Side.NAME c.args.saddle c.args.regions.now r.regions c.args.from
+          c.args.reached.now r.reached r.low c.args.at c.index_of.result at (sym c.number.ensures ∙ c.in_default.is) w),
+    )
 
 pub returns-then-not-reached-number : goal.returns-then-not-reached-number
 returns-then-not-reached-number g c =
@@ -23,7 +26,8 @@ returns-then-not-reached-number g c =
     let at = place g (goal.at.returns-then-not-reached-number g c).After-index_of in
     let not = c.if-not-reached-number.true in (
       λ t. absurd (false≢true t),
-      λ w. absurd (false≢true (sym not ∙ IsReachedLow-pit (g.G.Heights.map c.args.grid.now) g.S.Side.NAME c.args.saddle c.args.regions.now r.regions c.args.from c.args.reached.now r.reached r.low c.args.at c.index_of.result at c.in-Some.number (sym c.number.ensures ∙ c.in-Some.is) w)),
+      λ w. absurd (false≢true (sym not ∙ IsReachedLow-pit (g.G.Heights.map c.args.grid.now) g.S.Side.NAME c.args.saddle c.args.regions.now r.regions c.args.from c.args.reached.now
+          r.reached r.low c.args.at c.index_of.result at c.in-Some.number (sym c.number.ensures ∙ c.in-Some.is) w)),
     )
 
 pub returns : goal.returns
@@ -31,6 +35,7 @@ returns g c =
     let r = c.requires in
     let m = g.G.Heights.map c.args.grid.now in
     let at = place g (goal.at.returns g c).After-index_of in (
-      λ t. IsReachedLow-by_pit m g.S.Side.NAME c.args.saddle c.args.regions.now r.regions c.args.from c.args.reached.now r.reached r.low c.args.at c.index_of.result at c.in-Some.number (sym c.number.ensures ∙ c.in-Some.is) c.if-not-reached-number.false (c.lies_within.ensures.0 t),
+      λ t. IsReachedLow-by_pit m g.S.Side.NAME c.args.saddle c.args.regions.now r.regions c.args.from c.args.reached.now r.reached r.low c.args.at c.index_of.result at
+          c.in-Some.number (sym c.number.ensures ∙ c.in-Some.is) c.if-not-reached-number.false (c.lies_within.ensures.0 t),
       λ w. c.lies_within.ensures.1 (LiesWithin-reached m g.S.Side.NAME c.args.saddle c.args.regions.now r.regions c.args.from c.args.reached.now r.reached r.low c.args.at c.index_of.result at w),
     )

@@ -10,7 +10,8 @@ pub returns-then-eq : goal.returns-then-eq
 returns-then-eq g c steps count leads =
     let m = g.G.Heights.map c.args.grid.now in
     let is : c.loop-gone.here ≡ c.args.to = search rules in
-    rw c.from_vec.ensures (IsDown-end m c.args.residues.now c.args.from c.args.to steps count leads c.loop-gone.path.items c.loop-gone.here c.loop-gone.gone is (c.loop-gone.invariant.going steps count leads))
+    rw c.from_vec.ensures (IsDown-end m c.args.residues.now c.args.from c.args.to steps count leads c.loop-gone.path.items c.loop-gone.here c.loop-gone.gone is
+    (c.loop-gone.invariant.going steps count leads))
 
 pub loop-gone-init : goal.loop-gone-init
 loop-gone-init g c =
@@ -28,7 +29,8 @@ loop-gone-preserved g c =
     let apart : here ≡ c.args.to → ⊥ = Pos-different here c.args.to c.eq.result c.eq.ensures c.if-eq.false in
     record {
       present = c.first_beside-here.ensures.present;
-      going = λ steps count leads. rw c.in_ok-push.ensures.items (IsDown-more m residues c.args.from c.args.to steps count leads c.loop-gone.path.items here c.first_beside-here.result c.loop-gone.gone c.residue_before-residue.result
+      going = λ steps count leads. rw c.in_ok-push.ensures.items (IsDown-more m residues c.args.from c.args.to steps count leads c.loop-gone.path.items here
+          c.first_beside-here.result c.loop-gone.gone c.residue_before-residue.result
           present apart residue c.first_beside-here.ensures.first (c.loop-gone.invariant.going steps count leads));
     }
 

@@ -22,7 +22,8 @@ returns-then-is_open-clause-first g c =
     let left = c.saturating_sub-left.ensures in
     let right = c.min-x-end.ensures in (
       row,
-      IsLeak-open m c.args.side c.args.level c.args.cut.now at q c.requires.at c.requires.here (c.is_open.ensures.0 c.if-is_open.true) (omega (arith, left, c.loop-x.auto.x)) (omega (arith, right, c.loop-x-test.true))
+      IsLeak-open m c.args.side c.args.level c.args.cut.now at q c.requires.at c.requires.here (c.is_open.ensures.0 c.if-is_open.true) (omega (arith, left, c.loop-x.auto.x))
+          (omega (arith, right, c.loop-x-test.true))
           (omega (arith, row, c.requires.step)) (omega (arith, row)) out,
       λ r e leak. elim (cases_lt r.x c.loop-x.x) [
         | inl before ↦ absurd (c.loop-x.invariant.none r (omega (arith, e)) before leak)
@@ -34,7 +35,8 @@ pub returns-then-is_open-clause-place : goal.returns-then-is_open-clause-place
 returns-then-is_open-clause-place g c =
     let m = g.G.Heights.map c.args.surface.now in
     IsPlaceOf-goes_on m.size c.args.cut.now c.args.at c.args.step c.first_from.result (omega (arith, c.if-at-step-eq0.false))
-    (IsBehind-left c.size-size.result m.size c.args.cut.now c.args.at c.args.step c.saturating_sub-left.result c.index_of.result c.first_from.result c.size-size.ensures (omega (arith, c.saturating_sub-left.ensures)) c.index_of.ensures.value c.first_from.ensures)
+    (IsBehind-left c.size-size.result m.size c.args.cut.now c.args.at c.args.step c.saturating_sub-left.result c.index_of.result c.first_from.result c.size-size.ensures
+    (omega (arith, c.saturating_sub-left.ensures)) c.index_of.ensures.value c.first_from.ensures)
 
 pub loop-x-preserved : goal.loop-x-preserved
 loop-x-preserved g c =
@@ -60,8 +62,10 @@ loop-x-preserved g c =
       | else-stands_at+else-is_open w ↦ rw w.next-is
           (let other : next < length cut → point_of cut next ≡ q → ⊥ = λ inside e. false≢true (sym w.if-stands_at.false ∙ c.stands_at.ensures.1 (inside, e)) in
           record {
-            next = IsFirstFrom-stays m.size cut index (row * m.size.points + (c.loop-x.x + 1)) next (omega arith) (λ inside. place_at-apart m.size cut q next (c.requires.present next inside).in_grid there (other inside)) c.loop-x.invariant.next;
-            none = IsLeak-none_more m c.args.side c.args.level cut at row c.loop-x.x (λ leak. false≢true (sym w.if-is_open.false ∙ w.is_open.ensures.1 (leak.neighbour.beside, leak.neighbour.to, leak.below))) c.loop-x.invariant.none;
+            next = IsFirstFrom-stays m.size cut index (row * m.size.points + (c.loop-x.x + 1)) next (omega arith)
+                (λ inside. place_at-apart m.size cut q next (c.requires.present next inside).in_grid there (other inside)) c.loop-x.invariant.next;
+            none = IsLeak-none_more m c.args.side c.args.level cut at row c.loop-x.x
+                (λ leak. false≢true (sym w.if-is_open.false ∙ w.is_open.ensures.1 (leak.neighbour.beside, leak.neighbour.to, leak.below))) c.loop-x.invariant.none;
           })
     ]
 
@@ -69,7 +73,8 @@ pub returns-clause-place : goal.returns-clause-place
 returns-clause-place g c =
     let m = g.G.Heights.map c.args.surface.now in
     IsPlaceOf-goes_on m.size c.args.cut.now c.args.at c.args.step c.first_from.result (omega (arith, c.if-at-step-eq0.false))
-    (IsBehind-left c.size-size.result m.size c.args.cut.now c.args.at c.args.step c.saturating_sub-left.result c.index_of.result c.first_from.result c.size-size.ensures (omega (arith, c.saturating_sub-left.ensures)) c.index_of.ensures.value c.first_from.ensures)
+    (IsBehind-left c.size-size.result m.size c.args.cut.now c.args.at c.args.step c.saturating_sub-left.result c.index_of.result c.first_from.result c.size-size.ensures
+    (omega (arith, c.saturating_sub-left.ensures)) c.index_of.ensures.value c.first_from.ensures)
 
 pub index_of-requires : goal.index_of-requires
 index_of-requires g c =
@@ -106,5 +111,6 @@ first_from-requires-clause-start g c =
     let at = c.args.at in
     let q : Pos = record { x = c.saturating_sub-left.result; y = at.y + c.args.step - 1 } in
     let left : at.x - 1 ≡ c.saturating_sub-left.result = omega (arith, c.saturating_sub-left.ensures) in
-    let index : left_index m.size at c.args.step ≡ c.index_of.result = ap (λ l. (at.y + c.args.step - 1) * m.size.points + l) left ∙ sym (c.index_of.ensures.value ∙ ap (λ (s : Size). place_of s q) c.size-size.ensures) in
+    let index : left_index m.size at c.args.step ≡ c.index_of.result = ap (λ l. (at.y + c.args.step - 1) * m.size.points + l) left
+    ∙ sym (c.index_of.ensures.value ∙ ap (λ (s : Size). place_of s q) c.size-size.ensures) in
     rw c.size-size.ensures (subst (λ i. IsBehind m.size c.args.cut.now i c.args.place.now) index (c.requires.place at (omega arith) (omega (arith, c.if-at-step-eq0.false))))

@@ -38,7 +38,8 @@ returns-then-is_some-2-clause-places g c =
 pub returns-clause-first : goal.returns-clause-first
 returns-clause-first g c =
     let m = g.G.Heights.map c.args.surface.now in
-    FirstLeak-below m c.args.side c.args.level c.args.cut.now c.args.at c.leak_in-above.result c.leak_in-beside.result c.leak_in.result c.leak_in-above.ensures.first (sym c.is_some.ensures ∙ c.if-is_some.false)
+    FirstLeak-below m c.args.side c.args.level c.args.cut.now c.args.at c.leak_in-above.result c.leak_in-beside.result c.leak_in.result c.leak_in-above.ensures.first
+    (sym c.is_some.ensures ∙ c.if-is_some.false)
     c.leak_in-beside.ensures.first (sym c.is_some-2.ensures ∙ c.if-is_some-2.false) c.leak_in.ensures.first
 
 pub returns-clause-places : goal.returns-clause-places

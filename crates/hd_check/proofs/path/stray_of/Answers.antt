@@ -10,7 +10,8 @@ loop-k-preserved g c =
 
 pub returns-then-not-are_neighbours : goal.returns-then-not-are_neighbours
 returns-then-not-are_neighbours g c =
-    consecutive_pairs-stop (Neighbour (g.G.Heights.map c.args.surface.now)) (point_of c.args.path.now) c.loop-k.k c.loop-k.auto.k c.loop-k.invariant (length c.args.path.now) c.loop-k-test.true (search rules)
+    consecutive_pairs-stop (Neighbour (g.G.Heights.map c.args.surface.now)) (point_of c.args.path.now) c.loop-k.k c.loop-k.auto.k c.loop-k.invariant
+    (length c.args.path.now) c.loop-k-test.true (search rules)
 
 pub returns : goal.returns
 returns g c = λ i below. c.loop-k.invariant i (omega (arith, below, c.loop-k-test.false))

@@ -11,5 +11,6 @@ returns-in_err-at c = let p = err_from_is_err_and c.from_residual.result c.from_
 ])
 
 pub points-preserved : goal.points-preserved
-points-preserved c = rw c.in_ok-push.ensures.ok (AreItemsBefore-more point_form c.args.bytes.now c.args.count c.args.start c.points.points c.points.place c.in_ok-at.next c.points.k c.in_ok-at.at c.points-test.true c.points.invariant
+points-preserved c = rw c.in_ok-push.ensures.ok (AreItemsBefore-more point_form c.args.bytes.now c.args.count c.args.start c.points.points c.points.place c.in_ok-at.next c.points.k
+    c.in_ok-at.at c.points-test.true c.points.invariant
     c.in_ok-at.ensures.0 c.in_ok-at.ensures.1)

@@ -7,25 +7,82 @@ use Rattle.hd_check.proofs.AppendedTexts.{append-last}
 use Rattle.hd_check.proofs.writing.push_saddle_line.Goals as goal
 
 pub returns-in_err-push_text : goal.returns-in_err-push_text
-returns-in_err-push_text c = let p = err_from_is_err_and c.from_residual.result c.from_residual.ensures.1 in rw p.1 (prefix_first c.args.out.now c.push_text.new.out (codes "saddle ") ((decimal c.args.saddle.0.x) ++ ((32 ∷ []) ++ ((decimal c.args.saddle.0.y) ++ ((32 ∷ []) ++ ((signed_decimal c.args.saddle.1) ++ ((10 ∷ []))))))) (c.in_err-push_text.ensures.err))
+returns-in_err-push_text c = let p = err_from_is_err_and c.from_residual.result c.from_residual.ensures.1 in rw p.1
+    (prefix_first c.args.out.now c.push_text.new.out (codes "saddle ") ((decimal c.args.saddle.0.x)
+    ++ ((32 ∷ []) ++ ((decimal c.args.saddle.0.y) ++ ((32 ∷ []) ++ ((signed_decimal c.args.saddle.1) ++ ((10 ∷ []))))))) (c.in_err-push_text.ensures.err))
 
 pub returns-in_err-push_count : goal.returns-in_err-push_count
-returns-in_err-push_count c = let p = err_from_is_err_and c.from_residual-in_err-push_count.result c.from_residual-in_err-push_count.ensures.1 in rw p.1 (prefix_then c.args.out.now c.push_text.new.out c.push_count.new.out (codes "saddle ") ((decimal c.args.saddle.0.x) ++ ((32 ∷ []) ++ ((decimal c.args.saddle.0.y) ++ ((32 ∷ []) ++ ((signed_decimal c.args.saddle.1) ++ ((10 ∷ []))))))) (c.in_ok-push_text.ensures.ok) (prefix_first c.push_text.new.out c.push_count.new.out (decimal c.args.saddle.0.x) ((32 ∷ []) ++ ((decimal c.args.saddle.0.y) ++ ((32 ∷ []) ++ ((signed_decimal c.args.saddle.1) ++ ((10 ∷ [])))))) (c.in_err-push_count.ensures)))
+returns-in_err-push_count c = let p = err_from_is_err_and c.from_residual-in_err-push_count.result c.from_residual-in_err-push_count.ensures.1 in rw p.1
+    (prefix_then c.args.out.now c.push_text.new.out c.push_count.new.out (codes "saddle ")
+    ((decimal c.args.saddle.0.x) ++ ((32 ∷ []) ++ ((decimal c.args.saddle.0.y) ++ ((32 ∷ []) ++ ((signed_decimal c.args.saddle.1) ++ ((10 ∷ []))))))) (c.in_ok-push_text.ensures.ok)
+    (prefix_first c.push_text.new.out c.push_count.new.out (decimal c.args.saddle.0.x)
+    ((32 ∷ []) ++ ((decimal c.args.saddle.0.y) ++ ((32 ∷ []) ++ ((signed_decimal c.args.saddle.1) ++ ((10 ∷ [])))))) (c.in_err-push_count.ensures)))
 
 pub returns-in_err-push_text-2 : goal.returns-in_err-push_text-2
-returns-in_err-push_text-2 c = let p = err_from_is_err_and c.from_residual-in_err-push_text-2.result c.from_residual-in_err-push_text-2.ensures.1 in rw p.1 (prefix_then c.args.out.now c.push_text.new.out c.push_text-2.new.out (codes "saddle ") ((decimal c.args.saddle.0.x) ++ ((32 ∷ []) ++ ((decimal c.args.saddle.0.y) ++ ((32 ∷ []) ++ ((signed_decimal c.args.saddle.1) ++ ((10 ∷ []))))))) (c.in_ok-push_text.ensures.ok) (prefix_then c.push_text.new.out c.push_count.new.out c.push_text-2.new.out (decimal c.args.saddle.0.x) ((32 ∷ []) ++ ((decimal c.args.saddle.0.y) ++ ((32 ∷ []) ++ ((signed_decimal c.args.saddle.1) ++ ((10 ∷ [])))))) (c.in_ok-push_count.ensures) (prefix_first c.push_count.new.out c.push_text-2.new.out (32 ∷ []) ((decimal c.args.saddle.0.y) ++ ((32 ∷ []) ++ ((signed_decimal c.args.saddle.1) ++ ((10 ∷ []))))) (c.in_err-push_text-2.ensures.err))))
+returns-in_err-push_text-2 c = let p = err_from_is_err_and c.from_residual-in_err-push_text-2.result c.from_residual-in_err-push_text-2.ensures.1 in rw p.1
+    (prefix_then c.args.out.now c.push_text.new.out c.push_text-2.new.out (codes "saddle ")
+    ((decimal c.args.saddle.0.x) ++ ((32 ∷ []) ++ ((decimal c.args.saddle.0.y) ++ ((32 ∷ []) ++ ((signed_decimal c.args.saddle.1) ++ ((10 ∷ []))))))) (c.in_ok-push_text.ensures.ok)
+    (prefix_then c.push_text.new.out c.push_count.new.out c.push_text-2.new.out (decimal c.args.saddle.0.x)
+    ((32 ∷ []) ++ ((decimal c.args.saddle.0.y) ++ ((32 ∷ []) ++ ((signed_decimal c.args.saddle.1) ++ ((10 ∷ [])))))) (c.in_ok-push_count.ensures)
+    (prefix_first c.push_count.new.out c.push_text-2.new.out (32 ∷ []) ((decimal c.args.saddle.0.y) ++ ((32 ∷ []) ++ ((signed_decimal c.args.saddle.1) ++ ((10 ∷ [])))))
+    (c.in_err-push_text-2.ensures.err))))
 
 pub returns-in_err-push_count-2 : goal.returns-in_err-push_count-2
-returns-in_err-push_count-2 c = let p = err_from_is_err_and c.from_residual-in_err-push_count-2.result c.from_residual-in_err-push_count-2.ensures.1 in rw p.1 (prefix_then c.args.out.now c.push_text.new.out c.push_count-2.new.out (codes "saddle ") ((decimal c.args.saddle.0.x) ++ ((32 ∷ []) ++ ((decimal c.args.saddle.0.y) ++ ((32 ∷ []) ++ ((signed_decimal c.args.saddle.1) ++ ((10 ∷ []))))))) (c.in_ok-push_text.ensures.ok) (prefix_then c.push_text.new.out c.push_count.new.out c.push_count-2.new.out (decimal c.args.saddle.0.x) ((32 ∷ []) ++ ((decimal c.args.saddle.0.y) ++ ((32 ∷ []) ++ ((signed_decimal c.args.saddle.1) ++ ((10 ∷ [])))))) (c.in_ok-push_count.ensures) (prefix_then c.push_count.new.out c.push_text-2.new.out c.push_count-2.new.out (32 ∷ []) ((decimal c.args.saddle.0.y) ++ ((32 ∷ []) ++ ((signed_decimal c.args.saddle.1) ++ ((10 ∷ []))))) (c.in_ok-push_text-2.ensures.ok) (prefix_first c.push_text-2.new.out c.push_count-2.new.out (decimal c.args.saddle.0.y) ((32 ∷ []) ++ ((signed_decimal c.args.saddle.1) ++ ((10 ∷ [])))) (c.in_err-push_count-2.ensures)))))
+returns-in_err-push_count-2 c = let p = err_from_is_err_and c.from_residual-in_err-push_count-2.result c.from_residual-in_err-push_count-2.ensures.1 in rw p.1
+    (prefix_then c.args.out.now c.push_text.new.out c.push_count-2.new.out (codes "saddle ")
+    ((decimal c.args.saddle.0.x) ++ ((32 ∷ []) ++ ((decimal c.args.saddle.0.y) ++ ((32 ∷ []) ++ ((signed_decimal c.args.saddle.1) ++ ((10 ∷ []))))))) (c.in_ok-push_text.ensures.ok)
+    (prefix_then c.push_text.new.out c.push_count.new.out c.push_count-2.new.out (decimal c.args.saddle.0.x)
+    ((32 ∷ []) ++ ((decimal c.args.saddle.0.y) ++ ((32 ∷ []) ++ ((signed_decimal c.args.saddle.1) ++ ((10 ∷ [])))))) (c.in_ok-push_count.ensures)
+    (prefix_then c.push_count.new.out c.push_text-2.new.out c.push_count-2.new.out (32 ∷ [])
+    ((decimal c.args.saddle.0.y) ++ ((32 ∷ []) ++ ((signed_decimal c.args.saddle.1) ++ ((10 ∷ []))))) (c.in_ok-push_text-2.ensures.ok)
+    (prefix_first c.push_text-2.new.out c.push_count-2.new.out (decimal c.args.saddle.0.y) ((32 ∷ []) ++ ((signed_decimal c.args.saddle.1) ++ ((10 ∷ []))))
+    (c.in_err-push_count-2.ensures)))))
 
 pub returns-in_err-push_text-3 : goal.returns-in_err-push_text-3
-returns-in_err-push_text-3 c = let p = err_from_is_err_and c.from_residual-in_err-push_text-3.result c.from_residual-in_err-push_text-3.ensures.1 in rw p.1 (prefix_then c.args.out.now c.push_text.new.out c.push_text-3.new.out (codes "saddle ") ((decimal c.args.saddle.0.x) ++ ((32 ∷ []) ++ ((decimal c.args.saddle.0.y) ++ ((32 ∷ []) ++ ((signed_decimal c.args.saddle.1) ++ ((10 ∷ []))))))) (c.in_ok-push_text.ensures.ok) (prefix_then c.push_text.new.out c.push_count.new.out c.push_text-3.new.out (decimal c.args.saddle.0.x) ((32 ∷ []) ++ ((decimal c.args.saddle.0.y) ++ ((32 ∷ []) ++ ((signed_decimal c.args.saddle.1) ++ ((10 ∷ [])))))) (c.in_ok-push_count.ensures) (prefix_then c.push_count.new.out c.push_text-2.new.out c.push_text-3.new.out (32 ∷ []) ((decimal c.args.saddle.0.y) ++ ((32 ∷ []) ++ ((signed_decimal c.args.saddle.1) ++ ((10 ∷ []))))) (c.in_ok-push_text-2.ensures.ok) (prefix_then c.push_text-2.new.out c.push_count-2.new.out c.push_text-3.new.out (decimal c.args.saddle.0.y) ((32 ∷ []) ++ ((signed_decimal c.args.saddle.1) ++ ((10 ∷ [])))) (c.in_ok-push_count-2.ensures) (prefix_first c.push_count-2.new.out c.push_text-3.new.out (32 ∷ []) ((signed_decimal c.args.saddle.1) ++ ((10 ∷ []))) (c.in_err-push_text-3.ensures.err))))))
+returns-in_err-push_text-3 c = let p = err_from_is_err_and c.from_residual-in_err-push_text-3.result c.from_residual-in_err-push_text-3.ensures.1 in rw p.1
+    (prefix_then c.args.out.now c.push_text.new.out c.push_text-3.new.out (codes "saddle ")
+    ((decimal c.args.saddle.0.x) ++ ((32 ∷ []) ++ ((decimal c.args.saddle.0.y) ++ ((32 ∷ []) ++ ((signed_decimal c.args.saddle.1) ++ ((10 ∷ []))))))) (c.in_ok-push_text.ensures.ok)
+    (prefix_then c.push_text.new.out c.push_count.new.out c.push_text-3.new.out (decimal c.args.saddle.0.x)
+    ((32 ∷ []) ++ ((decimal c.args.saddle.0.y) ++ ((32 ∷ []) ++ ((signed_decimal c.args.saddle.1) ++ ((10 ∷ [])))))) (c.in_ok-push_count.ensures)
+    (prefix_then c.push_count.new.out c.push_text-2.new.out c.push_text-3.new.out (32 ∷ [])
+    ((decimal c.args.saddle.0.y) ++ ((32 ∷ []) ++ ((signed_decimal c.args.saddle.1) ++ ((10 ∷ []))))) (c.in_ok-push_text-2.ensures.ok)
+    (prefix_then c.push_text-2.new.out c.push_count-2.new.out c.push_text-3.new.out (decimal c.args.saddle.0.y) ((32 ∷ []) ++ ((signed_decimal c.args.saddle.1) ++ ((10 ∷ []))))
+    (c.in_ok-push_count-2.ensures) (prefix_first c.push_count-2.new.out c.push_text-3.new.out (32 ∷ []) ((signed_decimal c.args.saddle.1) ++ ((10 ∷ [])))
+    (c.in_err-push_text-3.ensures.err))))))
 
 pub returns-in_err-push_height : goal.returns-in_err-push_height
-returns-in_err-push_height c = let p = err_from_is_err_and c.from_residual-in_err-push_height.result c.from_residual-in_err-push_height.ensures.1 in rw p.1 (prefix_then c.args.out.now c.push_text.new.out c.push_height.new.out (codes "saddle ") ((decimal c.args.saddle.0.x) ++ ((32 ∷ []) ++ ((decimal c.args.saddle.0.y) ++ ((32 ∷ []) ++ ((signed_decimal c.args.saddle.1) ++ ((10 ∷ []))))))) (c.in_ok-push_text.ensures.ok) (prefix_then c.push_text.new.out c.push_count.new.out c.push_height.new.out (decimal c.args.saddle.0.x) ((32 ∷ []) ++ ((decimal c.args.saddle.0.y) ++ ((32 ∷ []) ++ ((signed_decimal c.args.saddle.1) ++ ((10 ∷ [])))))) (c.in_ok-push_count.ensures) (prefix_then c.push_count.new.out c.push_text-2.new.out c.push_height.new.out (32 ∷ []) ((decimal c.args.saddle.0.y) ++ ((32 ∷ []) ++ ((signed_decimal c.args.saddle.1) ++ ((10 ∷ []))))) (c.in_ok-push_text-2.ensures.ok) (prefix_then c.push_text-2.new.out c.push_count-2.new.out c.push_height.new.out (decimal c.args.saddle.0.y) ((32 ∷ []) ++ ((signed_decimal c.args.saddle.1) ++ ((10 ∷ [])))) (c.in_ok-push_count-2.ensures) (prefix_then c.push_count-2.new.out c.push_text-3.new.out c.push_height.new.out (32 ∷ []) ((signed_decimal c.args.saddle.1) ++ ((10 ∷ []))) (c.in_ok-push_text-3.ensures.ok) (prefix_first c.push_text-3.new.out c.push_height.new.out (signed_decimal c.args.saddle.1) ((10 ∷ [])) (c.in_err-push_height.ensures)))))))
+returns-in_err-push_height c = let p = err_from_is_err_and c.from_residual-in_err-push_height.result c.from_residual-in_err-push_height.ensures.1 in rw p.1
+    (prefix_then c.args.out.now c.push_text.new.out c.push_height.new.out (codes "saddle ")
+    ((decimal c.args.saddle.0.x) ++ ((32 ∷ []) ++ ((decimal c.args.saddle.0.y) ++ ((32 ∷ []) ++ ((signed_decimal c.args.saddle.1) ++ ((10 ∷ []))))))) (c.in_ok-push_text.ensures.ok)
+    (prefix_then c.push_text.new.out c.push_count.new.out c.push_height.new.out (decimal c.args.saddle.0.x)
+    ((32 ∷ []) ++ ((decimal c.args.saddle.0.y) ++ ((32 ∷ []) ++ ((signed_decimal c.args.saddle.1) ++ ((10 ∷ [])))))) (c.in_ok-push_count.ensures)
+    (prefix_then c.push_count.new.out c.push_text-2.new.out c.push_height.new.out (32 ∷ [])
+    ((decimal c.args.saddle.0.y) ++ ((32 ∷ []) ++ ((signed_decimal c.args.saddle.1) ++ ((10 ∷ []))))) (c.in_ok-push_text-2.ensures.ok)
+    (prefix_then c.push_text-2.new.out c.push_count-2.new.out c.push_height.new.out (decimal c.args.saddle.0.y) ((32 ∷ []) ++ ((signed_decimal c.args.saddle.1) ++ ((10 ∷ []))))
+    (c.in_ok-push_count-2.ensures) (prefix_then c.push_count-2.new.out c.push_text-3.new.out c.push_height.new.out (32 ∷ []) ((signed_decimal c.args.saddle.1) ++ ((10 ∷ [])))
+    (c.in_ok-push_text-3.ensures.ok) (prefix_first c.push_text-3.new.out c.push_height.new.out (signed_decimal c.args.saddle.1) ((10 ∷ [])) (c.in_err-push_height.ensures)))))))
 
 pub returns-in_err-push_text-4 : goal.returns-in_err-push_text-4
-returns-in_err-push_text-4 c = let p = err_from_is_err_and c.from_residual-in_err-push_text-4.result c.from_residual-in_err-push_text-4.ensures.1 in rw p.1 (prefix_then c.args.out.now c.push_text.new.out c.push_text-4.new.out (codes "saddle ") ((decimal c.args.saddle.0.x) ++ ((32 ∷ []) ++ ((decimal c.args.saddle.0.y) ++ ((32 ∷ []) ++ ((signed_decimal c.args.saddle.1) ++ ((10 ∷ []))))))) (c.in_ok-push_text.ensures.ok) (prefix_then c.push_text.new.out c.push_count.new.out c.push_text-4.new.out (decimal c.args.saddle.0.x) ((32 ∷ []) ++ ((decimal c.args.saddle.0.y) ++ ((32 ∷ []) ++ ((signed_decimal c.args.saddle.1) ++ ((10 ∷ [])))))) (c.in_ok-push_count.ensures) (prefix_then c.push_count.new.out c.push_text-2.new.out c.push_text-4.new.out (32 ∷ []) ((decimal c.args.saddle.0.y) ++ ((32 ∷ []) ++ ((signed_decimal c.args.saddle.1) ++ ((10 ∷ []))))) (c.in_ok-push_text-2.ensures.ok) (prefix_then c.push_text-2.new.out c.push_count-2.new.out c.push_text-4.new.out (decimal c.args.saddle.0.y) ((32 ∷ []) ++ ((signed_decimal c.args.saddle.1) ++ ((10 ∷ [])))) (c.in_ok-push_count-2.ensures) (prefix_then c.push_count-2.new.out c.push_text-3.new.out c.push_text-4.new.out (32 ∷ []) ((signed_decimal c.args.saddle.1) ++ ((10 ∷ []))) (c.in_ok-push_text-3.ensures.ok) (prefix_then c.push_text-3.new.out c.push_height.new.out c.push_text-4.new.out (signed_decimal c.args.saddle.1) ((10 ∷ [])) (c.in_ok-push_height.ensures) (c.in_err-push_text-4.ensures.err)))))))
+returns-in_err-push_text-4 c = let p = err_from_is_err_and c.from_residual-in_err-push_text-4.result c.from_residual-in_err-push_text-4.ensures.1 in rw p.1
+    (prefix_then c.args.out.now c.push_text.new.out c.push_text-4.new.out (codes "saddle ")
+    ((decimal c.args.saddle.0.x) ++ ((32 ∷ []) ++ ((decimal c.args.saddle.0.y) ++ ((32 ∷ []) ++ ((signed_decimal c.args.saddle.1) ++ ((10 ∷ []))))))) (c.in_ok-push_text.ensures.ok)
+    (prefix_then c.push_text.new.out c.push_count.new.out c.push_text-4.new.out (decimal c.args.saddle.0.x)
+    ((32 ∷ []) ++ ((decimal c.args.saddle.0.y) ++ ((32 ∷ []) ++ ((signed_decimal c.args.saddle.1) ++ ((10 ∷ [])))))) (c.in_ok-push_count.ensures)
+    (prefix_then c.push_count.new.out c.push_text-2.new.out c.push_text-4.new.out (32 ∷ [])
+    ((decimal c.args.saddle.0.y) ++ ((32 ∷ []) ++ ((signed_decimal c.args.saddle.1) ++ ((10 ∷ []))))) (c.in_ok-push_text-2.ensures.ok)
+    (prefix_then c.push_text-2.new.out c.push_count-2.new.out c.push_text-4.new.out (decimal c.args.saddle.0.y) ((32 ∷ []) ++ ((signed_decimal c.args.saddle.1) ++ ((10 ∷ []))))
+    (c.in_ok-push_count-2.ensures) (prefix_then c.push_count-2.new.out c.push_text-3.new.out c.push_text-4.new.out (32 ∷ []) ((signed_decimal c.args.saddle.1) ++ ((10 ∷ [])))
+    (c.in_ok-push_text-3.ensures.ok) (prefix_then c.push_text-3.new.out c.push_height.new.out c.push_text-4.new.out (signed_decimal c.args.saddle.1) ((10 ∷ []))
+    (c.in_ok-push_height.ensures) (c.in_err-push_text-4.ensures.err)))))))
 
 pub returns : goal.returns
-returns c = append-last c.args.out.now c.push_text.new.out c.push_text-4.new.out (codes "saddle ") ((decimal c.args.saddle.0.x) ++ ((32 ∷ []) ++ ((decimal c.args.saddle.0.y) ++ ((32 ∷ []) ++ ((signed_decimal c.args.saddle.1) ++ ((10 ∷ []))))))) (c.in_ok-push_text.ensures.ok) (append-last c.push_text.new.out c.push_count.new.out c.push_text-4.new.out (decimal c.args.saddle.0.x) ((32 ∷ []) ++ ((decimal c.args.saddle.0.y) ++ ((32 ∷ []) ++ ((signed_decimal c.args.saddle.1) ++ ((10 ∷ [])))))) (c.in_ok-push_count.ensures) (append-last c.push_count.new.out c.push_text-2.new.out c.push_text-4.new.out (32 ∷ []) ((decimal c.args.saddle.0.y) ++ ((32 ∷ []) ++ ((signed_decimal c.args.saddle.1) ++ ((10 ∷ []))))) (c.in_ok-push_text-2.ensures.ok) (append-last c.push_text-2.new.out c.push_count-2.new.out c.push_text-4.new.out (decimal c.args.saddle.0.y) ((32 ∷ []) ++ ((signed_decimal c.args.saddle.1) ++ ((10 ∷ [])))) (c.in_ok-push_count-2.ensures) (append-last c.push_count-2.new.out c.push_text-3.new.out c.push_text-4.new.out (32 ∷ []) ((signed_decimal c.args.saddle.1) ++ ((10 ∷ []))) (c.in_ok-push_text-3.ensures.ok) (append-last c.push_text-3.new.out c.push_height.new.out c.push_text-4.new.out (signed_decimal c.args.saddle.1) ((10 ∷ [])) (c.in_ok-push_height.ensures) (c.in_ok-push_text-4.ensures.ok))))))
+returns c = append-last c.args.out.now c.push_text.new.out c.push_text-4.new.out (codes "saddle ")
+    ((decimal c.args.saddle.0.x) ++ ((32 ∷ []) ++ ((decimal c.args.saddle.0.y) ++ ((32 ∷ []) ++ ((signed_decimal c.args.saddle.1) ++ ((10 ∷ []))))))) (c.in_ok-push_text.ensures.ok)
+    (append-last c.push_text.new.out c.push_count.new.out c.push_text-4.new.out (decimal c.args.saddle.0.x)
+    ((32 ∷ []) ++ ((decimal c.args.saddle.0.y) ++ ((32 ∷ []) ++ ((signed_decimal c.args.saddle.1) ++ ((10 ∷ [])))))) (c.in_ok-push_count.ensures)
+    (append-last c.push_count.new.out c.push_text-2.new.out c.push_text-4.new.out (32 ∷ [])
+    ((decimal c.args.saddle.0.y) ++ ((32 ∷ []) ++ ((signed_decimal c.args.saddle.1) ++ ((10 ∷ []))))) (c.in_ok-push_text-2.ensures.ok)
+    (append-last c.push_text-2.new.out c.push_count-2.new.out c.push_text-4.new.out (decimal c.args.saddle.0.y) ((32 ∷ []) ++ ((signed_decimal c.args.saddle.1) ++ ((10 ∷ []))))
+    (c.in_ok-push_count-2.ensures) (append-last c.push_count-2.new.out c.push_text-3.new.out c.push_text-4.new.out (32 ∷ []) ((signed_decimal c.args.saddle.1) ++ ((10 ∷ [])))
+    (c.in_ok-push_text-3.ensures.ok) (append-last c.push_text-3.new.out c.push_height.new.out c.push_text-4.new.out (signed_decimal c.args.saddle.1) ((10 ∷ []))
+    (c.in_ok-push_height.ensures) (c.in_ok-push_text-4.ensures.ok))))))

@@ -10,7 +10,8 @@ edits-preserved g c =
     let last = c.edits.draws.last in
     let inv = c.edits.invariant in
     record {
-      edits = AreEdits-more demo (g.E.SurfaceSession.state c.args.session.now) (g.E.SurfaceSession.state c.edits.session) (g.E.SurfaceSession.state c.answer_line.new.self) n c.as_slice.result.now _ inv.edits
+      edits = AreEdits-more demo (g.E.SurfaceSession.state c.args.session.now) (g.E.SurfaceSession.state c.edits.session)
+          (g.E.SurfaceSession.state c.answer_line.new.self) n c.as_slice.result.now _ inv.edits
           (c.as_slice.ensures ∙ c.in_ok-line.ensures.edit ∙ edit_by-drawn demo.size demo.number n last inv.last) c.in_ok-answer_line.ensures.ok;
       last = draws_before-more demo.size demo.number n last c.drawn_edit.new.draws.last inv.last c.drawn_edit.ensures.last;
       asked = omega (arith, c.answer_line.ensures.asked, inv.asked);

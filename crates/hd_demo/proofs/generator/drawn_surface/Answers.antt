@@ -13,7 +13,8 @@ cells-preserved c =
     let inv = c.cells.invariant in
     record {
       data_type = c.push.ensures.data_type ∙ inv.data_type;
-      cells = drawn_cells-more number n c.cells.draws.last (cells_in c.cells.cells) (cells_in c.push.new.self) c.cell_in.result inv.cells inv.last (c.cell_in.ensures.cell ∙ ap cell_in c.draw.ensures.drawn) c.in_ok-push.ensures.ok;
+      cells = drawn_cells-more number n c.cells.draws.last (cells_in c.cells.cells) (cells_in c.push.new.self) c.cell_in.result inv.cells inv.last
+          (c.cell_in.ensures.cell ∙ ap cell_in c.draw.ensures.drawn) c.in_ok-push.ensures.ok;
       last = c.draw.ensures.last ∙ c.draw.ensures.drawn ∙ ap next_draw inv.last ∙ sym (drawn-more number n);
       few = omega (arith, c.cells-test.true);
     }

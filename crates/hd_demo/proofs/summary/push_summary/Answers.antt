@@ -18,9 +18,15 @@ returns-clause-summary g c =
     let rows-2 : List Row = row-2 ∷ rows-3 in
     let end = g.E.SurfaceSession.state c.push_row-6.new.session in
     let text = c.push_row-6.new.out in
-    let from-6 = AddsRows-then (g.E.SurfaceSession.state c.push_row-5.new.session) (g.E.SurfaceSession.state c.push_row-6.new.session) end row-6 [] c.push_row-5.new.out c.push_row-6.new.out text c.in_ok-push_row-6.ensures.row (AddsRows-none end text) in
-    let from-5 = AddsRows-then (g.E.SurfaceSession.state c.push_row-4.new.session) (g.E.SurfaceSession.state c.push_row-5.new.session) end row-5 rows-6 c.push_row-4.new.out c.push_row-5.new.out text c.in_ok-push_row-5.ensures.row from-6 in
-    let from-4 = AddsRows-then (g.E.SurfaceSession.state c.push_row-3.new.session) (g.E.SurfaceSession.state c.push_row-4.new.session) end row-4 rows-5 c.push_row-3.new.out c.push_row-4.new.out text c.in_ok-push_row-4.ensures.row from-5 in
-    let from-3 = AddsRows-then (g.E.SurfaceSession.state c.push_row-2.new.session) (g.E.SurfaceSession.state c.push_row-3.new.session) end row-3 rows-4 c.push_row-2.new.out c.push_row-3.new.out text c.in_ok-push_row-3.ensures.row from-4 in
-    let from-2 = AddsRows-then (g.E.SurfaceSession.state c.push_row.new.session) (g.E.SurfaceSession.state c.push_row-2.new.session) end row-2 rows-3 c.push_row.new.out c.push_row-2.new.out text c.in_ok-push_row-2.ensures.row from-3 in
-    AddsRows-then (g.E.SurfaceSession.state c.args.session.now) (g.E.SurfaceSession.state c.push_row.new.session) end row-1 rows-2 c.args.out.now c.push_row.new.out text c.in_ok-push_row.ensures.row from-2
+    let from-6 = AddsRows-then (g.E.SurfaceSession.state c.push_row-5.new.session) (g.E.SurfaceSession.state c.push_row-6.new.session) end row-6
+    [] c.push_row-5.new.out c.push_row-6.new.out text c.in_ok-push_row-6.ensures.row (AddsRows-none end text) in
+    let from-5 = AddsRows-then (g.E.SurfaceSession.state c.push_row-4.new.session)
+    (g.E.SurfaceSession.state c.push_row-5.new.session) end row-5 rows-6 c.push_row-4.new.out c.push_row-5.new.out text c.in_ok-push_row-5.ensures.row from-6 in
+    let from-4 = AddsRows-then (g.E.SurfaceSession.state c.push_row-3.new.session)
+    (g.E.SurfaceSession.state c.push_row-4.new.session) end row-4 rows-5 c.push_row-3.new.out c.push_row-4.new.out text c.in_ok-push_row-4.ensures.row from-5 in
+    let from-3 = AddsRows-then (g.E.SurfaceSession.state c.push_row-2.new.session)
+    (g.E.SurfaceSession.state c.push_row-3.new.session) end row-3 rows-4 c.push_row-2.new.out c.push_row-3.new.out text c.in_ok-push_row-3.ensures.row from-4 in
+    let from-2 = AddsRows-then (g.E.SurfaceSession.state c.push_row.new.session) (g.E.SurfaceSession.state c.push_row-2.new.session) end row-2 rows-3 c.push_row.new.out
+    c.push_row-2.new.out text c.in_ok-push_row-2.ensures.row from-3 in
+    AddsRows-then (g.E.SurfaceSession.state c.args.session.now) (g.E.SurfaceSession.state c.push_row.new.session) end row-1 rows-2 c.args.out.now c.push_row.new.out text
+    c.in_ok-push_row.ensures.row from-2

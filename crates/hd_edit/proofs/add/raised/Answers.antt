@@ -22,7 +22,8 @@ returns-in_err-lists-clause-edit g c =
     let m = g.G.Heights.map c.args.grid.now in
     let delta = c.in-Raise.delta in
     let fits : SFits w64 delta = search rules in
-    let refused = IsRefusalBy-raise m (g.met.G.Heights.whole c.args.grid.now) c.args.from c.args.to delta c.requires.accepted c.in_err-lists.field-0.0 (rw (to_z-of_z w64 delta fits) at c.in_err-lists.ensures) in
+    let refused = IsRefusalBy-raise m (g.met.G.Heights.whole c.args.grid.now) c.args.from c.args.to delta c.requires.accepted c.in_err-lists.field-0.0
+    (rw (to_z-of_z w64 delta fits) at c.in_err-lists.ensures) in
     rw c.in-Raise.is
     (passed_on (λ (found : Option OldAndNew). IfSome found (λ (lists : OldAndNew). IsStroked m c.args.from c.args.to (stroke.Raise delta) (Ok (map_after m lists))))
     (IsRefusalBy (IsStroked m c.args.from c.args.to (stroke.Raise delta))) c.from_residual.result c.in_err-lists.field-0.0 c.from_residual.ensures.1 refused)

@@ -22,5 +22,6 @@ returns-clause-notes g c =
     let whole = g.met.G.Heights.whole c.args.grid.now in
     rw c.push.ensures.changes (All-push (IsChange m) c.args.notes.now.changes (record { index = c.index_of-index.result; was = c.was_of-was.result }) c.requires.notes (record {
       inside = rw (← c.size.ensures) c.index_of-index.ensures.in_map;
-      height = IsWasOf-cell m.data_type c.was_of-was.result c.cell-cell.result (rw c.data_type.ensures at c.was_of-was.ensures) (rw c.cell-cell.ensures (IsCellOf-cell_at m whole c.args.at c.requires.in_grid));
+      height = IsWasOf-cell m.data_type c.was_of-was.result c.cell-cell.result (rw c.data_type.ensures at c.was_of-was.ensures)
+          (rw c.cell-cell.ensures (IsCellOf-cell_at m whole c.args.at c.requires.in_grid));
     }))

@@ -10,10 +10,12 @@ pub set_profiles-requires-clause-of_type : goal.set_profiles-requires-clause-of_
 set_profiles-requires-clause-of_type g c =
     let m = g.G.Heights.map c.args.grid.now in
     let same : values_of narrow c.deref.result.now ≡ heights_in c.args.numbers.now = ap (values_of narrow) c.deref.ensures.value ∙ sym (ap heights_in c.in-Narrow.is) in
-    subst (λ (hs : List (Option ℤ)). AreCellsOf m.data_type (cells_after m hs)) (sym same) (AreCellsOf-cells_after m (heights_in c.args.numbers.now) (g.met.G.Heights.whole c.args.grid.now) c.requires.heights.of_type)
+    subst (λ (hs : List (Option ℤ)). AreCellsOf m.data_type (cells_after m hs)) (sym same)
+    (AreCellsOf-cells_after m (heights_in c.args.numbers.now) (g.met.G.Heights.whole c.args.grid.now) c.requires.heights.of_type)
 
 pub set_profiles-requires-in-Wide-clause-of_type : goal.set_profiles-requires-in-Wide-clause-of_type
 set_profiles-requires-in-Wide-clause-of_type g c =
     let m = g.G.Heights.map c.args.grid.now in
     let same : values_of wide c.deref-in-Wide.result.now ≡ heights_in c.args.numbers.now = ap (values_of wide) c.deref-in-Wide.ensures.value ∙ sym (ap heights_in c.in-Wide.is) in
-    subst (λ (hs : List (Option ℤ)). AreCellsOf m.data_type (cells_after m hs)) (sym same) (AreCellsOf-cells_after m (heights_in c.args.numbers.now) (g.met.G.Heights.whole c.args.grid.now) c.requires.heights.of_type)
+    subst (λ (hs : List (Option ℤ)). AreCellsOf m.data_type (cells_after m hs)) (sym same)
+    (AreCellsOf-cells_after m (heights_in c.args.numbers.now) (g.met.G.Heights.whole c.args.grid.now) c.requires.heights.of_type)

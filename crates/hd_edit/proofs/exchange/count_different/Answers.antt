@@ -24,7 +24,8 @@ differ-requires-clause-one g c =
 pub differ-requires-clause-other : goal.differ-requires-clause-other
 differ-requires-clause-other g c =
     let code = g.L.Lane.code in
-    IsPlainNumber-read code (most_filtered code) (most_filtered code) (omega arith) c.args.news.now c.requires.news.each c.loop-place.place c.index-news-place.result c.loop-place-test.true c.index-news-place.is
+    IsPlainNumber-read code (most_filtered code) (most_filtered code) (omega arith) c.args.news.now c.requires.news.each c.loop-place.place c.index-news-place.result
+    c.loop-place-test.true c.index-news-place.is
 
 pub loop-place-preserved : goal.loop-place-preserved
 loop-place-preserved g c =
@@ -38,5 +39,6 @@ loop-place-preserved g c =
     let is : c.differ.result ≡ differs (get_or olds k None) (get_or news k None) = c.differ.ensures ∙ ap₂ differs old new in
     let test : ℕ → Bool = λ i. differs (get_or olds i None) (get_or news i None) in
     let counted : c.loop-place.count + c.from-count.result ≡ count_below test (k + 1) =
-    ap (λ (n : ℕ). c.loop-place.count + n) (c.from-count.ensures ∙ byte_is c.differ.result) ∙ ap (λ (b : Bool). c.loop-place.count + (if b then 1 else 0)) is ∙ ap (λ (n : ℕ). n + (if test k then 1 else 0)) c.loop-place.invariant.counted ∙ sym (count_below-more test k) in
+    ap (λ (n : ℕ). c.loop-place.count + n) (c.from-count.ensures ∙ byte_is c.differ.result) ∙ ap (λ (b : Bool). c.loop-place.count + (if b then 1 else 0)) is
+    ∙ ap (λ (n : ℕ). n + (if test k then 1 else 0)) c.loop-place.invariant.counted ∙ sym (count_below-more test k) in
     record { counted = counted; few = omega (arith, counted, count_below-few test (k + 1)) }

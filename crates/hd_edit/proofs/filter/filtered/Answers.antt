@@ -11,7 +11,8 @@ returns-in_ok-lists-in-Dilate-clause-edit g c =
     let m = g.G.Heights.map c.args.grid.now in
     let e : ElementTable = c.in_ok-element-in-Dilate.element.now in
     let lists = c.in_ok-lists-in-Dilate.lists in
-    rw c.in-Dilate.is (subst (λ (found : Option ElementTable). IsFilteredBy Dilation m found (Ok (map_after m lists))) (sym c.in_ok-element-in-Dilate.ensures) (IsFilteredMap-lists Dilation m e lists c.in_ok-lists-in-Dilate.ensures))
+    rw c.in-Dilate.is (subst (λ (found : Option ElementTable). IsFilteredBy Dilation m found (Ok (map_after m lists))) (sym c.in_ok-element-in-Dilate.ensures)
+    (IsFilteredMap-lists Dilation m e lists c.in_ok-lists-in-Dilate.ensures))
 
 pub returns-in_ok-lists-in-Dilate-clause-heights : goal.returns-in_ok-lists-in-Dilate-clause-heights
 returns-in_ok-lists-in-Dilate-clause-heights g c =
@@ -23,7 +24,8 @@ returns-in_ok-lists-in-Erode-clause-edit g c =
     let m = g.G.Heights.map c.args.grid.now in
     let e : ElementTable = c.in_ok-element-in-Erode.element.now in
     let lists = c.in_ok-lists-in-Erode.lists in
-    rw c.in-Erode.is (subst (λ (found : Option ElementTable). IsFilteredBy Erosion m found (Ok (map_after m lists))) (sym c.in_ok-element-in-Erode.ensures) (IsFilteredMap-lists Erosion m e lists c.in_ok-lists-in-Erode.ensures))
+    rw c.in-Erode.is (subst (λ (found : Option ElementTable). IsFilteredBy Erosion m found (Ok (map_after m lists))) (sym c.in_ok-element-in-Erode.ensures)
+    (IsFilteredMap-lists Erosion m e lists c.in_ok-lists-in-Erode.ensures))
 
 pub returns-in_ok-lists-in-Erode-clause-heights : goal.returns-in_ok-lists-in-Erode-clause-heights
 returns-in_ok-lists-in-Erode-clause-heights g c =
@@ -35,7 +37,8 @@ returns-in_ok-lists-in-Open-clause-edit g c =
     let m = g.G.Heights.map c.args.grid.now in
     let e : ElementTable = c.in_ok-element-in-Open.element.now in
     let lists = c.in_ok-lists-in-Open.lists in
-    rw c.in-Open.is (subst (λ (found : Option ElementTable). IsFilteredBy Opening m found (Ok (map_after m lists))) (sym c.in_ok-element-in-Open.ensures) (IsFilteredMap-lists Opening m e lists c.in_ok-lists-in-Open.ensures))
+    rw c.in-Open.is (subst (λ (found : Option ElementTable). IsFilteredBy Opening m found (Ok (map_after m lists))) (sym c.in_ok-element-in-Open.ensures)
+    (IsFilteredMap-lists Opening m e lists c.in_ok-lists-in-Open.ensures))
 
 pub returns-in_ok-lists-in-Open-clause-heights : goal.returns-in_ok-lists-in-Open-clause-heights
 returns-in_ok-lists-in-Open-clause-heights g c =
@@ -47,7 +50,8 @@ returns-in_ok-lists-in-Close-clause-edit g c =
     let m = g.G.Heights.map c.args.grid.now in
     let e : ElementTable = c.in_ok-element-in-Close.element.now in
     let lists = c.in_ok-lists-in-Close.lists in
-    rw c.in-Close.is (subst (λ (found : Option ElementTable). IsFilteredBy Closing m found (Ok (map_after m lists))) (sym c.in_ok-element-in-Close.ensures) (IsFilteredMap-lists Closing m e lists c.in_ok-lists-in-Close.ensures))
+    rw c.in-Close.is (subst (λ (found : Option ElementTable). IsFilteredBy Closing m found (Ok (map_after m lists))) (sym c.in_ok-element-in-Close.ensures)
+    (IsFilteredMap-lists Closing m e lists c.in_ok-lists-in-Close.ensures))
 
 pub returns-in_ok-lists-in-Close-clause-heights : goal.returns-in_ok-lists-in-Close-clause-heights
 returns-in_ok-lists-in-Close-clause-heights g c =

@@ -34,5 +34,6 @@ returns-in-Some-Nothing g c =
 pub returns-in-Some-Mask : goal.returns-in-Some-Mask
 returns-in-Some-Mask g c =
     let m = g.G.Heights.map c.args.grid.now in
-    masks c.data_type.result m.data_type c.args.stroke c.cell.result (cell_at m c.args.at) c.masked.result (mask_at m c.args.at) c.data_type.ensures c.cell.ensures c.masked.ensures c.in-Some-Mask.field-0-0
+    masks c.data_type.result m.data_type c.args.stroke c.cell.result (cell_at m c.args.at) c.masked.result
+    (mask_at m c.args.at) c.data_type.ensures c.cell.ensures c.masked.ensures c.in-Some-Mask.field-0-0
     (rw c.in-Some-Mask.field-0-is at c.in-Some-Mask.ensures) (IsCellOf-cell_at m (g.met.G.Heights.whole c.args.grid.now) c.args.at c.requires)

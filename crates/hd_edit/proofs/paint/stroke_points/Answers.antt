@@ -19,18 +19,22 @@ loop-at-init g c = let m = g.G.Heights.map c.args.grid.now in record {
 pub stroke_point-requires-clause-in_range : goal.stroke_point-requires-clause-in_range
 stroke_point-requires-clause-in_range g c =
     let m = g.G.Heights.map c.args.grid.now in
-    Drawn-fits m c.args.from c.args.to c.args.stroke (g.met.G.Heights.whole c.args.grid.now) c.requires.rectangle c.loop-at.at c.loop-at.invariant.stands c.loop-at-test.true (g.G.Heights.map c.loop-at.grid) c.loop-at.notes.changes c.loop-at.invariant.drawn c.requires.in_range
+    Drawn-fits m c.args.from c.args.to c.args.stroke (g.met.G.Heights.whole c.args.grid.now) c.requires.rectangle c.loop-at.at c.loop-at.invariant.stands c.loop-at-test.true
+    (g.G.Heights.map c.loop-at.grid) c.loop-at.notes.changes c.loop-at.invariant.drawn c.requires.in_range
 
 pub stroke_point-requires-clause-count : goal.stroke_point-requires-clause-count
 stroke_point-requires-clause-count g c =
     let m = g.G.Heights.map c.args.grid.now in
-    let room = Drawn-room m c.args.from c.args.to c.args.stroke (g.met.G.Heights.whole c.args.grid.now) c.requires.rectangle c.loop-at.at c.loop-at.invariant.stands c.loop-at-test.true (g.G.Heights.map c.loop-at.grid) c.loop-at.notes.changes c.loop-at.invariant.drawn in
+    let room = Drawn-room m c.args.from c.args.to c.args.stroke (g.met.G.Heights.whole c.args.grid.now) c.requires.rectangle c.loop-at.at c.loop-at.invariant.stands
+    c.loop-at-test.true (g.G.Heights.map c.loop-at.grid) c.loop-at.notes.changes c.loop-at.invariant.drawn in
     omega (arith, c.loop-at.invariant.few, room, c.requires.room, c.ranges.count.fits, c.requires.changes)
 
 pub stroke_point-requires-clause-room : goal.stroke_point-requires-clause-room
 stroke_point-requires-clause-room g c =
     let m = g.G.Heights.map c.args.grid.now in
-    rw (c.loop-at.invariant.room, c.requires.room) (Drawn-room m c.args.from c.args.to c.args.stroke (g.met.G.Heights.whole c.args.grid.now) c.requires.rectangle c.loop-at.at c.loop-at.invariant.stands c.loop-at-test.true (g.G.Heights.map c.loop-at.grid) c.loop-at.notes.changes c.loop-at.invariant.drawn)
+    rw (c.loop-at.invariant.room, c.requires.room) (Drawn-room m c.args.from c.args.to c.args.stroke
+    (g.met.G.Heights.whole c.args.grid.now) c.requires.rectangle c.loop-at.at c.loop-at.invariant.stands c.loop-at-test.true
+    (g.G.Heights.map c.loop-at.grid) c.loop-at.notes.changes c.loop-at.invariant.drawn)
 
 pub loop-at-smaller : goal.loop-at-smaller
 loop-at-smaller g c =
@@ -45,7 +49,8 @@ loop-at-preserved g c =
     let m = g.G.Heights.map c.args.grid.now in
     record {
       stands = rw c.step-at.ensures (StandsAt-next m.size c.args.from c.args.to c.loop-at.at c.requires.rectangle c.loop-at.invariant.stands c.loop-at-test.true);
-      drawn = rw c.step-at.ensures (Drawn-next m c.args.from c.args.to c.args.stroke (g.met.G.Heights.whole c.args.grid.now) c.requires.rectangle c.loop-at.at c.loop-at.invariant.stands c.loop-at-test.true
+      drawn = rw c.step-at.ensures (Drawn-next m c.args.from c.args.to c.args.stroke
+          (g.met.G.Heights.whole c.args.grid.now) c.requires.rectangle c.loop-at.at c.loop-at.invariant.stands c.loop-at-test.true
           (g.G.Heights.map c.loop-at.grid) c.loop-at.notes.changes c.loop-at.invariant.drawn
           (g.G.Heights.map c.stroke_point.new.grid) c.stroke_point.new.notes.changes c.stroke_point.ensures.map c.stroke_point.ensures.before c.stroke_point.ensures.notes c.stroke_point.ensures.len);
       room = c.stroke_point.ensures.room ∙ c.loop-at.invariant.room;
@@ -56,12 +61,14 @@ loop-at-preserved g c =
 
 pub returns-clause-map : goal.returns-clause-map
 returns-clause-map g c =
-    Drawn-last (g.G.Heights.map c.args.grid.now) c.args.from c.args.to c.args.stroke (g.met.G.Heights.whole c.args.grid.now) c.requires.rectangle c.loop-at.at (g.G.Heights.map c.loop-at.grid) c.loop-at.notes.changes c.loop-at-test.false c.loop-at.invariant.drawn
+    Drawn-last (g.G.Heights.map c.args.grid.now) c.args.from c.args.to c.args.stroke (g.met.G.Heights.whole c.args.grid.now) c.requires.rectangle c.loop-at.at
+    (g.G.Heights.map c.loop-at.grid) c.loop-at.notes.changes c.loop-at-test.false c.loop-at.invariant.drawn
 
 pub returns-clause-notes : goal.returns-clause-notes
 returns-clause-notes g c =
     let m = g.G.Heights.map c.args.grid.now in
-    let few = Drawn-few m c.args.from c.args.to c.args.stroke (g.met.G.Heights.whole c.args.grid.now) c.requires.rectangle c.loop-at.at (g.G.Heights.map c.loop-at.grid) c.loop-at.notes.changes c.loop-at-test.false c.loop-at.invariant.drawn in
+    let few = Drawn-few m c.args.from c.args.to c.args.stroke (g.met.G.Heights.whole c.args.grid.now) c.requires.rectangle c.loop-at.at
+    (g.G.Heights.map c.loop-at.grid) c.loop-at.notes.changes c.loop-at-test.false c.loop-at.invariant.drawn in
     record {
       each = rw c.into_notes.ensures c.loop-at.invariant.drawn.notes_are;
       few = rw c.into_notes.ensures few;
@@ -70,5 +77,6 @@ returns-clause-notes g c =
 pub returns-clause-count : goal.returns-clause-count
 returns-clause-count g c =
     let m = g.G.Heights.map c.args.grid.now in
-    let few = Drawn-few m c.args.from c.args.to c.args.stroke (g.met.G.Heights.whole c.args.grid.now) c.requires.rectangle c.loop-at.at (g.G.Heights.map c.loop-at.grid) c.loop-at.notes.changes c.loop-at-test.false c.loop-at.invariant.drawn in
+    let few = Drawn-few m c.args.from c.args.to c.args.stroke (g.met.G.Heights.whole c.args.grid.now) c.requires.rectangle c.loop-at.at
+    (g.G.Heights.map c.loop-at.grid) c.loop-at.notes.changes c.loop-at-test.false c.loop-at.invariant.drawn in
     (c.loop-at.invariant.rises, omega (arith, c.loop-at.invariant.few, few))

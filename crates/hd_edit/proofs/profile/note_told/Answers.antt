@@ -29,7 +29,8 @@ note_number-requires-clause-of_type g c =
     let below : c.loop-x.x < length c.fill_heights.new.row = omega (arith, heights.whole, inside.column) in
     let read = number_in-read g.L.Lane.code c.fill_heights.new.row c.loop-x.x c.index-row-x.result below c.index-row-x.is in
     let shown = ap g.L.Lane.code.shown read ∙ (heights.each c.loop-x.x inside.column).is in
-    λ z is. rw c.data_type-data_type.ensures (subst (λ (cell : Cell). IsCellOf m.data_type cell) (shown_height-told (cell_at m at) (mask_at m at) z (sym shown ∙ is)) (IsCellOf-cell_at m (g.met.G.Heights.whole c.args.grid.now) at inside))
+    λ z is. rw c.data_type-data_type.ensures (subst (λ (cell : Cell). IsCellOf m.data_type cell) (shown_height-told (cell_at m at) (mask_at m at) z (sym shown ∙ is))
+    (IsCellOf-cell_at m (g.met.G.Heights.whole c.args.grid.now) at inside))
 
 pub loop-x-preserved : goal.loop-x-preserved
 loop-x-preserved g c =
@@ -43,7 +44,8 @@ loop-x-preserved g c =
     let new = value_in g.L.Lane.code c.args.new.now c.loop-x.x c.index-new-x.result c.loop-x-test.true c.index-new-x.is in
     let noted = c.if-not-note_number.ensures.told (cell_at m at) (λ z is. shown_height-told (cell_at m at) (mask_at m at) z (sym shown ∙ is)) in
     record {
-      noted = AreNotedChanges-more m c.args.y (values_of g.L.Lane.code c.args.new.now) (g.met.G.Heights.whole c.args.grid.now) c.loop-x.x inside m c.loop-x.x c.args.notes.now.changes c.loop-x.notes.changes c.note_number.new.notes.changes
+      noted = AreNotedChanges-more m c.args.y (values_of g.L.Lane.code c.args.new.now)
+          (g.met.G.Heights.whole c.args.grid.now) c.loop-x.x inside m c.loop-x.x c.args.notes.now.changes c.loop-x.notes.changes c.note_number.new.notes.changes
           c.data_type-data_type.result _ _ refl refl c.data_type-data_type.ensures (ap (λ (s : Size). place_of s at) c.size.ensures) new c.loop-x.invariant.noted noted;
       room = c.note_number.ensures.room ∙ c.loop-x.invariant.room;
     }

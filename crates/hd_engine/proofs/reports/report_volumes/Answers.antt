@@ -10,7 +10,8 @@ use Rattle.hd_engine.proofs.reports.report_volumes.Goals as goal
 pub fill-requires : goal.fill-requires
 fill-requires g c = (
   c.args.percent.thousandths,
-  (kept_known (g.G.Heights.map c.args.grid.now) g.S.Side.NAME c.args.percent.thousandths c.find_kept.new.self c.kept-kept.result.now c.find_kept.ensures.findings c.in_ok-find_kept.ensures.found c.kept-kept.ensures).alone,
+  (kept_known (g.G.Heights.map c.args.grid.now) g.S.Side.NAME c.args.percent.thousandths c.find_kept.new.self c.kept-kept.result.now c.find_kept.ensures.findings
+      c.in_ok-find_kept.ensures.found c.kept-kept.ensures).alone,
 )
 
 pub list_volumes-requires-clause-inside : goal.list_volumes-requires-clause-inside
@@ -22,7 +23,8 @@ list_volumes-requires-clause-inside g c =
 
 pub returns-clause-text : goal.returns-clause-text
 returns-clause-text g c =
-    let kept = kept_known (g.G.Heights.map c.args.grid.now) g.S.Side.NAME c.args.percent.thousandths c.find_kept.new.self c.kept-kept.result.now c.find_kept.ensures.findings c.in_ok-find_kept.ensures.found c.kept-kept.ensures in
+    let kept = kept_known (g.G.Heights.map c.args.grid.now) g.S.Side.NAME c.args.percent.thousandths c.find_kept.new.self c.kept-kept.result.now c.find_kept.ensures.findings
+    c.in_ok-find_kept.ensures.found c.kept-kept.ensures in
     let listed = c.in_ok-text.ensures in (
       c.kept-kept.result.now.pits,
       c.in_ok-volumes.volumes,

@@ -13,7 +13,8 @@ use Rattle.hd_feature.proofs.reading.read_notation.Goals as goal
 
 -- what the parts give after the first six, five, four, three, two and one
 abbrev after_six : Kind → Percent → Significance → Attribute → Statistic → List (List ℕ) → Result Notation NotationError
-after_six kind percent significance attribute statistic parts = no_part 7 parts (paired (record { kind = kind; percent = percent; significance = significance; attribute = attribute; statistic = statistic }))
+after_six kind percent significance attribute statistic parts = no_part 7 parts (paired
+    (record { kind = kind; percent = percent; significance = significance; attribute = attribute; statistic = statistic }))
 
 abbrev after_five : Kind → Percent → Significance → Attribute → List (List ℕ) → Result Notation NotationError
 after_five kind percent significance attribute parts = part 6 statistic_of parts (after_six kind percent significance attribute)
@@ -34,8 +35,10 @@ pub returns-then-is_some : goal.returns-then-is_some
 returns-then-is_some c = sym (c.read_part.ensures (λ _. after_one) ∙ ap (λ r. and_then r (λ q. after_one (parts_left q.1))) c.in_ok-_scope.was
     ∙ c.read_part-2.ensures after_two ∙ ap (λ r. and_then r (λ q. after_two q.0 (parts_left q.1))) c.in_ok-kind.was
     ∙ c.read_part-3.ensures (after_three c.in_ok-kind.kind) ∙ ap (λ r. and_then r (λ q. after_three c.in_ok-kind.kind q.0 (parts_left q.1))) c.in_ok-percent.was
-    ∙ c.read_part-4.ensures (after_four c.in_ok-kind.kind c.in_ok-percent.percent) ∙ ap (λ r. and_then r (λ q. after_four c.in_ok-kind.kind c.in_ok-percent.percent q.0 (parts_left q.1))) c.in_ok-significance.was
-    ∙ c.read_part-5.ensures (after_five c.in_ok-kind.kind c.in_ok-percent.percent c.in_ok-significance.significance) ∙ ap (λ r. and_then r (λ q. after_five c.in_ok-kind.kind c.in_ok-percent.percent c.in_ok-significance.significance q.0 (parts_left q.1))) c.in_ok-attribute.was
+    ∙ c.read_part-4.ensures (after_four c.in_ok-kind.kind c.in_ok-percent.percent)
+    ∙ ap (λ r. and_then r (λ q. after_four c.in_ok-kind.kind c.in_ok-percent.percent q.0 (parts_left q.1))) c.in_ok-significance.was
+    ∙ c.read_part-5.ensures (after_five c.in_ok-kind.kind c.in_ok-percent.percent c.in_ok-significance.significance)
+    ∙ ap (λ r. and_then r (λ q. after_five c.in_ok-kind.kind c.in_ok-percent.percent c.in_ok-significance.significance q.0 (parts_left q.1))) c.in_ok-attribute.was
     ∙ c.read_part-6.ensures (after_six c.in_ok-kind.kind c.in_ok-percent.percent c.in_ok-significance.significance c.in_ok-attribute.attribute)
     ∙ ap (λ r. and_then r (λ q. after_six c.in_ok-kind.kind c.in_ok-percent.percent c.in_ok-significance.significance c.in_ok-attribute.attribute q.0 (parts_left q.1))) c.in_ok-statistic.was
     ∙ no_part-left 7 c.in_ok-statistic.rest _ c.if-is_some.ensures)

@@ -9,7 +9,9 @@ use Rattle.hd_feature.proofs.value.attributes.Goals as goal
 pub regions-preserved : goal.regions-preserved
 regions-preserved c = record {
   cut = c.regions.invariant.cut;
-  so_far = attributes-more (significant_by c.args.notation.now.kind c.args.notation.now.significance c.in_ok-cut.cut) (attribute c.args.notation.now.attribute) c.args.regions.now c.regions.region-index _ c.regions.values.items c.add_significant.new.values.items (omega arith) c.regions.invariant.so_far c.in_ok-add_significant.ensures;
+  so_far = attributes-more (significant_by c.args.notation.now.kind c.args.notation.now.significance c.in_ok-cut.cut)
+      (attribute c.args.notation.now.attribute) c.args.regions.now c.regions.region-index _ c.regions.values.items c.add_significant.new.values.items
+      (omega arith) c.regions.invariant.so_far c.in_ok-add_significant.ensures;
 }
 
 pub returns : goal.returns

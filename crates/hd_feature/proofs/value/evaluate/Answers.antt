@@ -18,5 +18,6 @@ returns c =
     record {
       values_some = subst (λ vs. 0 < length vs) are some;
       area_some = omega arith;
-      fraction = subst (λ vs. IsFraction (over c.args.notation.now.statistic vs) (under c.args.notation.now.statistic vs c.args.area) c.statistic_of.result.num c.statistic_of.result.den) (slice ∙ are) c.statistic_of.ensures;
+      fraction = subst (λ vs. IsFraction (over c.args.notation.now.statistic vs) (under c.args.notation.now.statistic vs c.args.area) c.statistic_of.result.num
+          c.statistic_of.result.den) (slice ∙ are) c.statistic_of.ensures;
     }

@@ -14,7 +14,8 @@ pub links_of-requires-clause-joins : goal.links_of-requires-clause-joins
 links_of-requires-clause-joins g c = rw (c.lows-lows.ensures.value, c.passes.ensures) (λ k d inside. let j = c.lows-lows.ensures.whole.joins k d inside in (j.first, j.second))
 
 pub links_onward-requires-clause-within : goal.links_onward-requires-clause-within
-links_onward-requires-clause-within g c = same-each (HasEnds (length c.lows-lows.result.now)) c.in_ok-links_of.field-0.items c.in_ok-links.links c.in_ok-links.ensures.same c.in_ok-links_of.ensures.within
+links_onward-requires-clause-within g c = same-each (HasEnds (length c.lows-lows.result.now)) c.in_ok-links_of.field-0.items c.in_ok-links.links c.in_ok-links.ensures.same
+    c.in_ok-links_of.ensures.within
 
 pub visit_all-requires-clause-within : goal.visit_all-requires-clause-within
 visit_all-requires-clause-within g c = same-each (HasEnds (length c.lows-lows.result.now)) c.in_ok-links_of.field-0.items c.in_ok-links.links c.in_ok-links.ensures.same c.in_ok-links_of.ensures.within
@@ -34,5 +35,6 @@ returns g c =
     let sorted : List Link = c.in_ok-links.links in
     let same = c.in_ok-links.ensures.same in
     let line : IsFloodLine (below_by g.S.Side.NAME) lows (map (pass_of lows) links) c.in_ok-stops.stops =
-    line-same_passes (below_by g.S.Side.NAME) lows (map (pass_of lows) sorted) (map (pass_of lows) links) (passes-permuted lows sorted links same.only) (passes-permuted lows links sorted same.kept) c.in_ok-stops.stops c.in_ok-stops.ensures in
+    line-same_passes (below_by g.S.Side.NAME) lows (map (pass_of lows) sorted) (map (pass_of lows) links) (passes-permuted lows sorted links same.only)
+    (passes-permuted lows links sorted same.kept) c.in_ok-stops.stops c.in_ok-stops.ensures in
     rw c.new.ensures (rw (c.in_ok-links_of.ensures.passes, c.lows-lows.ensures.value, c.passes.ensures) at line)

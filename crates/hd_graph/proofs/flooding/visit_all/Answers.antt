@@ -14,11 +14,13 @@ loop-start-init g c =
     let dry = λ (v : ℕ). subst (λ ds. is_done ds v ≡ false) (sym clear) (none-done n v) in
     record {
       whole = λ k y v wet not h. absurd (let out = dry y in cc);
-      line = rw c.in_ok-stops.ensures (line-none (below_by g.S.Side.NAME) c.args.lows.now (map (pass_of c.args.lows.now) c.args.links.now) c.in_ok-done.done.items (ap length clear ∙ length-replicate {A = Bool} n false) (λ v wet. (let out = dry v in cc)));
+      line = rw c.in_ok-stops.ensures (line-none (below_by g.S.Side.NAME) c.args.lows.now (map (pass_of c.args.lows.now) c.args.links.now) c.in_ok-done.done.items
+          (ap length clear ∙ length-replicate {A = Bool} n false) (λ v wet. (let out = dry v in cc)));
       all = λ v less. absurd (omega arith);
     }
 
 pub returns : goal.returns
 returns g c =
-    line-all (below_by g.S.Side.NAME) c.args.lows.now c.requires.different (map (pass_of c.args.lows.now) c.args.links.now) c.loop-start.done.items c.loop-start.stops c.loop-start.invariant.line g.met.S.Side.order
+    line-all (below_by g.S.Side.NAME) c.args.lows.now c.requires.different (map (pass_of c.args.lows.now) c.args.links.now) c.loop-start.done.items c.loop-start.stops
+    c.loop-start.invariant.line g.met.S.Side.order
     (λ v inside. c.loop-start.invariant.all v (omega (arith, inside, c.loop-start-test.false))) (link-ends c.args.lows.now c.args.links.now c.requires.within)

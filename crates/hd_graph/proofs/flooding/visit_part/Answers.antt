@@ -18,7 +18,8 @@ next g c =
     let l : Link = c.at-link.result in
     let e : ℕ = length c.args.lows.now + k in
     let inside = slice_get_within c.args.links.now k l c.at-link.ensures in
-    c.requires.onward.each e l.a (k + 1) _ (inr (k, l, c.at-link.ensures, refl, refl, refl, (c.loop-place.invariant.reached.3).apart l c.at-link.ensures)) (slice_get-get_or c.args.onward.now e 0 (omega (arith, inside, c.requires.onward.long)))
+    c.requires.onward.each e l.a (k + 1) _ (inr (k, l, c.at-link.ensures, refl, refl, refl, (c.loop-place.invariant.reached.3).apart l c.at-link.ensures))
+    (slice_get-get_or c.args.onward.now e 0 (omega (arith, inside, c.requires.onward.long)))
 
 pub loop-place-init : goal.loop-place-init
 loop-place-init g c =
@@ -29,15 +30,23 @@ loop-place-init g c =
     let room : o < length c.args.onward.now = omega (arith, c.requires.start, c.requires.onward.long) in
     let s = made.stops in
     record {
-      reached = rw made.done (o, 0, reached-first c.args.links.now done o inside c.requires.whole, c.requires.onward.each o o 0 _ (inl (c.requires.start, refl, refl)) (slice_get-get_or c.args.onward.now o 0 room));
-      line = rw (made.done, s.1) (line-first (below_by g.S.Side.NAME) g.met.S.Side.order c.args.lows.now c.requires.different c.args.links.now c.requires.sorted c.requires.within done c.args.stops.now c.requires.line o s.0 c.requires.start c.if-done-start.false s.2 c.requires.whole s.3);
+      reached = rw made.done (
+        o,
+        0,
+        reached-first c.args.links.now done o inside c.requires.whole,
+        c.requires.onward.each o o 0 _ (inl (c.requires.start, refl, refl))
+            (slice_get-get_or c.args.onward.now o 0 room),
+      );
+      line = rw (made.done, s.1) (line-first (below_by g.S.Side.NAME) g.met.S.Side.order c.args.lows.now c.requires.different c.args.links.now c.requires.sorted c.requires.within
+          done c.args.stops.now c.requires.line o s.0 c.requires.start c.if-done-start.false s.2 c.requires.whole s.3);
       start = rw made.done (done-set done o inside);
       kept = λ v h. rw made.done (done-kept done o inside v h);
     }
 
 pub far_end-low-requires : goal.far_end-low-requires
 far_end-low-requires g c =
-    let ends : HasEnds (length c.args.lows.now) c.at-link.result = link-each (HasEnds (length c.args.lows.now)) c.args.links.now c.loop-place.place c.at-link.result c.requires.within c.at-link.ensures in
+    let ends : HasEnds (length c.args.lows.now) c.at-link.result = link-each (HasEnds (length c.args.lows.now)) c.args.links.now c.loop-place.place c.at-link.result
+    c.requires.within c.at-link.ensures in
     rw c.loop-place.invariant.line.long ends
 
 pub loop-place-smaller-then-done-low : goal.loop-place-smaller-then-done-low
@@ -65,7 +74,8 @@ pub loop-place-smaller : goal.loop-place-smaller
 loop-place-smaller g c =
     let o : ℕ = c.far_end-low.result in
     let done : List Bool = c.loop-place.done in
-    rw c.in_ok-visit-2.ensures.done (undone-less (undone (set done o true)) (undone done) (length c.args.links.now) c.loop-place.place _ (undone-set done o c.far_end-low.ensures.inside c.if-done-low.false))
+    rw c.in_ok-visit-2.ensures.done (undone-less (undone (set done o true)) (undone done) (length c.args.links.now) c.loop-place.place _
+    (undone-set done o c.far_end-low.ensures.inside c.if-done-low.false))
 
 pub loop-place-preserved : goal.loop-place-preserved
 loop-place-preserved g c =
@@ -85,7 +95,8 @@ loop-place-preserved g c =
         reached-next c.args.links.now done r.0 r.1 c.loop-place.place r.2 r.3 l c.at-link.ensures o c.far_end-low.ensures.far within,
         c.requires.onward.each o o 0 _ (inl (inside, refl, refl)) (slice_get-get_or c.args.onward.now o 0 room),
       );
-      line = rw (made.done, s.1) (line-next (below_by g.S.Side.NAME) g.met.S.Side.order c.args.lows.now c.requires.different c.args.links.now c.requires.sorted c.requires.within done c.loop-place.stops c.loop-place.invariant.line o s.0 inside c.if-done-low.false s.2
+      line = rw (made.done, s.1) (line-next (below_by g.S.Side.NAME) g.met.S.Side.order c.args.lows.now c.requires.different c.args.links.now c.requires.sorted c.requires.within
+          done c.loop-place.stops c.loop-place.invariant.line o s.0 inside c.if-done-low.false s.2
           r.0 r.1 c.loop-place.place r.2 r.3 l c.at-link.ensures (far-from c.args.links.now done r.0 r.1 c.loop-place.place r.2 r.3 l c.at-link.ensures o c.far_end-low.ensures.far) s.3);
       start = rw made.done (done-kept done o within c.args.start c.loop-place.invariant.start);
       kept = λ v h. rw made.done (done-kept done o within v (c.loop-place.invariant.kept v h));

@@ -36,8 +36,12 @@ loop-place-preserved g c =
     record {
       falling = e.falling;
       long = e.long ∙ c.loop-place.invariant.long;
-      joined = joined_to-next merges old new c.loop-place.place x (slice_get-get_or merges c.loop-place.place d c.loop-place-test.true) (kept-joining old new x.low x.into c.join.result e.joins e.one e.same) (one-joining old new x.low x.into c.join.result e.joins e.one e.same) c.loop-place.invariant.joined;
-      within = λ m is. within-joining old new x.low x.into c.join.result e.joins e.one e.same m g.S.Side.NAME c.args.level c.args.lows.now (merge-joined m g.S.Side.NAME c.args.lows.now merges is c.args.level x (Contains-get_or merges c.loop-place.place d c.loop-place-test.true) (c.if-not-is_below.ensures.0 refl)) (c.loop-place.invariant.within m is);
+      joined = joined_to-next merges old new c.loop-place.place x (slice_get-get_or merges c.loop-place.place d c.loop-place-test.true)
+          (kept-joining old new x.low x.into c.join.result e.joins e.one e.same) (one-joining old new x.low x.into c.join.result e.joins e.one e.same)
+          c.loop-place.invariant.joined;
+      within = λ m is. within-joining old new x.low x.into c.join.result e.joins e.one e.same m g.S.Side.NAME c.args.level c.args.lows.now
+          (merge-joined m g.S.Side.NAME c.args.lows.now merges is c.args.level x (Contains-get_or merges c.loop-place.place d c.loop-place-test.true)
+          (c.if-not-is_below.ensures.0 refl)) (c.loop-place.invariant.within m is);
     }
 
 pub returns-clause-below : goal.returns-clause-below

@@ -42,7 +42,8 @@ loop-low-preserved g c =
       own = (e.same c.args.from c.least_of-own.result).1 so.own;
       told = rw c.in_ok-push.ensures.items (length_push c.loop-low.joined.items _ ∙ ap (λ k. k + 1) so.told);
       each = λ m whole is. rw c.in_ok-push.ensures.items (joined_first-next m g.S.Side.NAME c.args.lows.now c.args.level c.args.from c.loop-low.low c.loop-low.joined.items _ so.told
-          (told-least m g.S.Side.NAME c.args.lows.now c.args.level new (classes_below-same m g.S.Side.NAME c.args.lows.now c.args.level old new e.same (so.below m whole is)) c.args.from c.loop-low.low c.least_of-own.result c.least_of-least.result c.requires.from c.loop-low-test.true
+          (told-least m g.S.Side.NAME c.args.lows.now c.args.level new (classes_below-same m g.S.Side.NAME c.args.lows.now c.args.level old new e.same (so.below m whole is))
+          c.args.from c.loop-low.low c.least_of-own.result c.least_of-least.result c.requires.from c.loop-low-test.true
           ((e.same c.args.from c.least_of-own.result).1 so.own) ((e.leasts c.least_of-own.result).1 so.least) ((e.same c.loop-low.low c.least_of-least.result).1 e.one) e.least)
           (so.each m whole is));
     }

@@ -10,10 +10,12 @@ use Rattle.std.proofs.lemmas.Grind.{common_steps}
 use Rattle.hd_graph.proofs.links.links_of.Goals as goal
 
 pub number_of-a-requires : goal.number_of-a-requires
-number_of-a-requires c = rw c.deref.ensures.value (number-within c.args.lows.now c.requires.different c.in_ok-numbers.numbers.items c.in_ok-numbers.ensures _ (c.requires.joins c.loop-pass.pass-index _ c.loop-pass-test.true).0)
+number_of-a-requires c = rw c.deref.ensures.value (number-within c.args.lows.now c.requires.different c.in_ok-numbers.numbers.items c.in_ok-numbers.ensures _
+    (c.requires.joins c.loop-pass.pass-index _ c.loop-pass-test.true).0)
 
 pub number_of-b-requires : goal.number_of-b-requires
-number_of-b-requires c = rw c.deref-in-loop-pass.ensures.value (number-within c.args.lows.now c.requires.different c.in_ok-numbers.numbers.items c.in_ok-numbers.ensures _ (c.requires.joins c.loop-pass.pass-index _ c.loop-pass-test.true).1)
+number_of-b-requires c = rw c.deref-in-loop-pass.ensures.value (number-within c.args.lows.now c.requires.different c.in_ok-numbers.numbers.items c.in_ok-numbers.ensures _
+    (c.requires.joins c.loop-pass.pass-index _ c.loop-pass-test.true).1)
 
 pub loop-pass-preserved : goal.loop-pass-preserved
 loop-pass-preserved c =
@@ -26,7 +28,8 @@ loop-pass-preserved c =
     let l : Link = record { a = c.number_of-a.result; b = c.number_of-b.result; at = p.at } in
     let is = link-of c.args.lows.now c.requires.different c.in_ok-numbers.numbers.items c.in_ok-numbers.ensures p joins.0 joins.1 c.number_of-a.result c.number_of-b.result at_a at_b in
     record {
-      passes = rw c.in_ok-push.ensures.items (links-more c.args.lows.now c.args.passes.now c.loop-pass.pass-index none c.loop-pass-test.true c.loop-pass.links.items l is.0 c.loop-pass.invariant.passes);
+      passes = rw c.in_ok-push.ensures.items (links-more c.args.lows.now c.args.passes.now c.loop-pass.pass-index none c.loop-pass-test.true c.loop-pass.links.items l is.0
+          c.loop-pass.invariant.passes);
       within = rw c.in_ok-push.ensures.items (All-push (HasEnds _) c.loop-pass.links.items l c.loop-pass.invariant.within is.1);
       long = (let long = c.in_ok-push.ensures.len in let was = c.loop-pass.invariant.long in omega (arith, long, was, c.push.new.self.ok.0, c.loop-pass.links.ok.0));
     }

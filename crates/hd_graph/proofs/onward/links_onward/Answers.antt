@@ -15,14 +15,25 @@ loop-place-init c =
       high = c.in_ok-classes.ensures.long;
       wide = c.in_ok-parts.ensures.long;
       long = (let long = ap length all ∙ length-replicate {A = ℕ} c.args.count c.len-none.result in omega (arith, long));
-      so = leads-none c.args.links.now c.args.count c.in_ok-classes.classes.parents.items c.in_ok-parts.parts.items c.in_ok-onward.onward.items c.in_ok-classes.ensures.own c.in_ok-parts.ensures.long c.in_ok-parts.ensures.own (rw c.len-none.ensures at all);
+      so = leads-none c.args.links.now c.args.count c.in_ok-classes.classes.parents.items c.in_ok-parts.parts.items c.in_ok-onward.onward.items c.in_ok-classes.ensures.own
+          c.in_ok-parts.ensures.long c.in_ok-parts.ensures.own (rw c.len-none.ensures at all);
     }
 
 pub leasts_of-first-requires-clause-first : goal.leasts_of-first-requires-clause-first
-leasts_of-first-requires-clause-first c = omega (arith, (link-each (HasEnds c.args.count) c.args.links.now c.loop-place.place c.at-link.result c.requires.within c.at-link.ensures).0, c.loop-place.invariant.high)
+leasts_of-first-requires-clause-first c = omega (
+  arith,
+  (link-each (HasEnds c.args.count) c.args.links.now c.loop-place.place c.at-link.result c.requires.within
+      c.at-link.ensures).0,
+  c.loop-place.invariant.high,
+)
 
 pub leasts_of-first-requires-clause-second : goal.leasts_of-first-requires-clause-second
-leasts_of-first-requires-clause-second c = omega (arith, (link-each (HasEnds c.args.count) c.args.links.now c.loop-place.place c.at-link.result c.requires.within c.at-link.ensures).1, c.loop-place.invariant.high)
+leasts_of-first-requires-clause-second c = omega (
+  arith,
+  (link-each (HasEnds c.args.count) c.args.links.now c.loop-place.place c.at-link.result c.requires.within
+      c.at-link.ensures).1,
+  c.loop-place.invariant.high,
+)
 
 pub index-requires : goal.index-requires
 index-requires c = omega (arith, c.leasts_of-first.ensures.inside.0, c.leasts_of-first.ensures.long, c.loop-place.invariant.high, c.loop-place.invariant.wide, c.loop-place.parts.ok.0)
@@ -34,16 +45,30 @@ pub index_mut-requires : goal.index_mut-requires
 index_mut-requires c =
     let found = c.leasts_of-first.ensures.found in
     let r : ℕ = c.leasts_of-first.result.0 in
-    let read = get-from_read c.loop-place.parts.items r _ _ (omega (arith, c.leasts_of-first.ensures.inside.0, c.leasts_of-first.ensures.long, c.loop-place.invariant.high, c.loop-place.invariant.wide)) (sym c.index.ensures) in
-    let within = top-inside c.args.links.now c.args.count c.loop-place.place c.loop-place.classes.parents.items r c.index.result.now (c.loop-place.invariant.so.tops r c.index.result.now ((found.leasts r).0 found.first_least) read) in
+    let read = get-from_read c.loop-place.parts.items r _ _ (omega (
+      arith,
+      c.leasts_of-first.ensures.inside.0,
+      c.leasts_of-first.ensures.long,
+      c.loop-place.invariant.high,
+      c.loop-place.invariant.wide,
+    )) (sym c.index.ensures) in
+    let within = top-inside c.args.links.now c.args.count c.loop-place.place c.loop-place.classes.parents.items r c.index.result.now
+    (c.loop-place.invariant.so.tops r c.index.result.now ((found.leasts r).0 found.first_least) read) in
     omega (arith, within, c.loop-place.invariant.long, c.in_ok-push.ensures.len, c.loop-place.onward.ok.0)
 
 pub index_mut-requires-in-loop-place : goal.index_mut-requires-in-loop-place
 index_mut-requires-in-loop-place c =
     let found = c.leasts_of-first.ensures.found in
     let r : ℕ = c.leasts_of-first.result.1 in
-    let read = get-from_read c.loop-place.parts.items r _ _ (omega (arith, c.leasts_of-first.ensures.inside.1, c.leasts_of-first.ensures.long, c.loop-place.invariant.high, c.loop-place.invariant.wide)) (sym c.index-in-loop-place.ensures) in
-    let within = top-inside c.args.links.now c.args.count c.loop-place.place c.loop-place.classes.parents.items r c.index-in-loop-place.result.now (c.loop-place.invariant.so.tops r c.index-in-loop-place.result.now ((found.leasts r).0 found.second_least) read) in
+    let read = get-from_read c.loop-place.parts.items r _ _ (omega (
+      arith,
+      c.leasts_of-first.ensures.inside.1,
+      c.leasts_of-first.ensures.long,
+      c.loop-place.invariant.high,
+      c.loop-place.invariant.wide,
+    )) (sym c.index-in-loop-place.ensures) in
+    let within = top-inside c.args.links.now c.args.count c.loop-place.place c.loop-place.classes.parents.items r c.index-in-loop-place.result.now
+    (c.loop-place.invariant.so.tops r c.index-in-loop-place.result.now ((found.leasts r).0 found.second_least) read) in
     omega (arith, within, c.loop-place.invariant.long, c.in_ok-push.ensures.len, c.loop-place.onward.ok.0)
 
 pub index_mut-requires-in-loop-place-2 : goal.index_mut-requires-in-loop-place-2
@@ -59,7 +84,8 @@ loop-place-preserved-then-first-second c =
       high = c.leasts_of-first.ensures.long ∙ c.loop-place.invariant.high;
       wide = c.loop-place.invariant.wide;
       long = rw (c.in_ok-push.ensures.items, length_push) (omega (arith, long));
-      so = rw (c.in_ok-push.ensures.items, c.len-none.ensures) (leads-skip c.args.links.now c.args.count c.loop-place.place c.loop-place.classes.parents.items c.leasts_of-first.new.self.parents.items c.loop-place.parts.items c.loop-place.onward.items long
+      so = rw (c.in_ok-push.ensures.items, c.len-none.ensures) (leads-skip c.args.links.now c.args.count c.loop-place.place c.loop-place.classes.parents.items
+          c.leasts_of-first.new.self.parents.items c.loop-place.parts.items c.loop-place.onward.items long
           c.at-link.result c.leasts_of-first.result.0 c.leasts_of-first.result.1 c.at-link.ensures c.leasts_of-first.ensures.found c.if-first-second.true c.loop-place.invariant.so);
     }
 
@@ -73,8 +99,20 @@ loop-place-preserved c =
     let r : ℕ = c.unite-least.result in
     let d : ℕ = c.index.result.now in
     let e : ℕ = c.index-in-loop-place.result.now in
-    let at_first = get-from_read parts first _ _ (omega (arith, c.leasts_of-first.ensures.inside.0, c.leasts_of-first.ensures.long, c.loop-place.invariant.high, c.loop-place.invariant.wide)) (sym c.index.ensures) in
-    let at_second = get-from_read parts second _ _ (omega (arith, c.leasts_of-first.ensures.inside.1, c.leasts_of-first.ensures.long, c.loop-place.invariant.high, c.loop-place.invariant.wide)) (sym c.index-in-loop-place.ensures) in
+    let at_first = get-from_read parts first _ _ (omega (
+      arith,
+      c.leasts_of-first.ensures.inside.0,
+      c.leasts_of-first.ensures.long,
+      c.loop-place.invariant.high,
+      c.loop-place.invariant.wide,
+    )) (sym c.index.ensures) in
+    let at_second = get-from_read parts second _ _ (omega (
+      arith,
+      c.leasts_of-first.ensures.inside.1,
+      c.leasts_of-first.ensures.long,
+      c.loop-place.invariant.high,
+      c.loop-place.invariant.wide,
+    )) (sym c.index-in-loop-place.ensures) in
     let more : List ℕ = onward ++ length c.args.links.now ∷ [] in
     let pushed : c.push.new.self.items ≡ more = rw c.len-none.ensures at c.in_ok-push.ensures.items in
     let long = c.loop-place.invariant.long in
@@ -84,7 +122,8 @@ loop-place-preserved c =
       high = c.unite-least.ensures.long ∙ c.leasts_of-first.ensures.long ∙ c.loop-place.invariant.high;
       wide = length-set parts r (c.args.count + n) ∙ c.loop-place.invariant.wide;
       long = rw (pushed, length-set (set more d n) e n, length-set more d n, length_push) (omega (arith, long));
-      so = rw pushed (leads-join c.args.links.now c.args.count n c.loop-place.classes.parents.items c.leasts_of-first.new.self.parents.items parts onward c.loop-place.invariant.so c.at-link.result c.at-link.ensures first second c.leasts_of-first.ensures.found c.if-first-second.false long d e at_first at_second
+      so = rw pushed (leads-join c.args.links.now c.args.count n c.loop-place.classes.parents.items c.leasts_of-first.new.self.parents.items parts onward c.loop-place.invariant.so
+          c.at-link.result c.at-link.ensures first second c.leasts_of-first.ensures.found c.if-first-second.false long d e at_first at_second
           c.unite-least.new.self.parents.items r c.unite-least.ensures.joins c.unite-least.ensures.one c.unite-least.ensures.least c.unite-least.ensures.leasts
           (omega (arith, within, c.unite-least.ensures.long, c.leasts_of-first.ensures.long, c.loop-place.invariant.high, c.loop-place.invariant.wide)));
     }
@@ -92,4 +131,5 @@ loop-place-preserved c =
 pub returns : goal.returns
 returns c =
     let past : c.loop-place.place ≡ length c.args.links.now = omega (arith, c.loop-place-test.false, c.loop-place.auto.place-end, c.len-none.ensures) in
-    leads-all c.args.links.now c.args.count c.loop-place.place c.loop-place.classes.parents.items c.loop-place.parts.items c.loop-place.onward.items past c.loop-place.invariant.long c.loop-place.invariant.so
+    leads-all c.args.links.now c.args.count c.loop-place.place c.loop-place.classes.parents.items c.loop-place.parts.items c.loop-place.onward.items past
+    c.loop-place.invariant.long c.loop-place.invariant.so

@@ -12,13 +12,15 @@ use Rattle.hd_graph.proofs.saddles.saddle_of_merges.Goals.{After-higher_first-hi
 
 -- the two ends, the higher one first
 ordered : (g : Over) (c : After-higher_first-high g) → AreByHeight g.S.Side.NAME c.args.lows.now c.loop-end.end c.loop-end.other c.higher_first-high.result.0 c.higher_first-high.result.1
-ordered g c = by-height g.S.Side.NAME c.args.lows.now c.requires.different c.loop-end.end c.loop-end.other c.loop-end.invariant.inside c.loop-end.invariant.other_inside c.loop-end-test.true c.higher_first-high.result c.higher_first-high.ensures
+ordered g c = by-height g.S.Side.NAME c.args.lows.now c.requires.different c.loop-end.end c.loop-end.other c.loop-end.invariant.inside c.loop-end.invariant.other_inside
+    c.loop-end-test.true c.higher_first-high.result c.higher_first-high.ensures
 
 -- the merge of the higher end
 found : (g : Over) (c : In-Some g) → c.higher_first-high.result.0 < length c.args.lows.now → Contains c.args.merges.now c.in-Some.merge.now × (c.in-Some.merge.now.low ≡ c.higher_first-high.result.0)
 found g c inside =
     let look = c.in-Some.ensures.lookup in
-    merge-read c.args.merges.now c.in_ok-numbers.numbers.items c.in_ok-numbers.ensures.numbers c.higher_first-high.result.0 c.index.result.now (omega (arith, inside, c.in_ok-numbers.ensures.long)) c.index.ensures c.in-Some.merge.now look.3.0 look.1
+    merge-read c.args.merges.now c.in_ok-numbers.numbers.items c.in_ok-numbers.ensures.numbers c.higher_first-high.result.0 c.index.result.now
+    (omega (arith, inside, c.in_ok-numbers.ensures.long)) c.index.ensures c.in-Some.merge.now look.3.0 look.1
 
 pub numbers_of_merges-requires-clause-within : goal.numbers_of_merges-requires-clause-within
 numbers_of_merges-requires-clause-within g c = (let h = c.requires.merges in λ k d inside. (h.2.at_saddles.each k d inside).low)
@@ -78,8 +80,10 @@ loop-end-preserved g c =
     record {
       inside = (merge_is of.0 g.S.Side.NAME lows c.args.merges.now of.2 x found_merge.0).into;
       other_inside = h.deep_inside;
-      so = λ m is. rw c.higher_of-highest.ensures (way-on m g.S.Side.NAME lows c.args.merges.now is c.loop-end.end c.loop-end.other c.higher_first-high.result.0 c.higher_first-high.result.1 h p q c.loop-end.highest (c.loop-end.invariant.so m is) x found_merge.0 found_merge.1);
-      met = λ e m is. rw c.higher_of-highest.ensures (way-meets m g.S.Side.NAME lows c.args.merges.now is c.loop-end.end c.loop-end.other c.higher_first-high.result.0 c.higher_first-high.result.1 h p q c.loop-end.highest (c.loop-end.invariant.so m is) x found_merge.0 found_merge.1 e);
+      so = λ m is. rw c.higher_of-highest.ensures (way-on m g.S.Side.NAME lows c.args.merges.now is c.loop-end.end c.loop-end.other c.higher_first-high.result.0
+          c.higher_first-high.result.1 h p q c.loop-end.highest (c.loop-end.invariant.so m is) x found_merge.0 found_merge.1);
+      met = λ e m is. rw c.higher_of-highest.ensures (way-meets m g.S.Side.NAME lows c.args.merges.now is c.loop-end.end c.loop-end.other c.higher_first-high.result.0
+          c.higher_first-high.result.1 h p q c.loop-end.highest (c.loop-end.invariant.so m is) x found_merge.0 found_merge.1 e);
     }
 
 pub returns : goal.returns

@@ -10,7 +10,8 @@ pub returns : goal.returns
 returns g c =
     let below = below_by g.S.Side.NAME in
     let rise = c.args.rise in
-    let parts : c.push-2.new.self ≡ rise.left ∷ rise.right ∷ [] = c.in_ok-push-2.ensures.ok ∙ ap (λ (lows : List Rank). lows ++ rise.right ∷ []) (c.in_ok-push.ensures.ok ∙ ap (λ (lows : List Rank). lows ++ rise.left ∷ []) c.in_ok-parts.ensures) in
+    let parts : c.push-2.new.self ≡ rise.left ∷ rise.right ∷ [] = c.in_ok-push-2.ensures.ok
+    ∙ ap (λ (lows : List Rank). lows ++ rise.right ∷ []) (c.in_ok-push.ensures.ok ∙ ap (λ (lows : List Rank). lows ++ rise.left ∷ []) c.in_ok-parts.ensures) in
     let opens : opens_join below rise.saddle (joins_of c.args.joins.now.items) ≡ true = (let e = c.opens_join.ensures in let f = c.if-not-opens_join.false in let h = c.deref.ensures.value in cc) in
     ap joins_of c.in_ok-push-3.ensures.items
     ∙ joins_of-push c.args.joins.now.items (record { saddle = rise.saddle; parts = c.push-2.new.self })

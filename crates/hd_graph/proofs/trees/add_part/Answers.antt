@@ -13,5 +13,6 @@ returns-then-not-below g c =
 pub returns-in-Some : goal.returns-in-Some
 returns-in-Some g c =
     let h : (below_by g.S.Side.NAME) c.in-Some.last.saddle c.args.part.saddle ≡ true = (let e = c.below.ensures in let f = c.if-not-below.false in cc) in
-    on_ok_weaker c.add_join.result (λ adds. part-adds (below_by g.S.Side.NAME) c.args.part c.args.joins.now.items c.pop.new.self.items c.push-in-Some.new.self.items c.add_join.new.joins.items c.in-Some.last
+    on_ok_weaker c.add_join.result (λ adds. part-adds (below_by g.S.Side.NAME) c.args.part c.args.joins.now.items c.pop.new.self.items c.push-in-Some.new.self.items
+    c.add_join.new.joins.items c.in-Some.last
     c.in-Some.ensures.items c.in_ok-push-2.ensures.items adds h) c.add_join.ensures

@@ -22,7 +22,8 @@ group-requires-clause-each g c =
 pub group-requires-clause-rising : goal.group-requires-clause-rising
 group-requires-clause-rising g c = rw c.as_slice-2.ensures c.in_ok-pits.ensures.of_line.at_saddles.rising
 
-on_line : (g : Over) (c : goal.After-drop-pits-inside-2 g) → IsTree (below_by g.S.Side.NAME) (IsSaddleOn (below_by g.S.Side.NAME) c.args.line.now) (IsPitOn c.args.line.now) (joins_of c.from_vec.result)
+on_line : (g : Over) (c : goal.After-drop-pits-inside-2 g) → IsTree (below_by g.S.Side.NAME) (IsSaddleOn (below_by g.S.Side.NAME) c.args.line.now) (IsPitOn c.args.line.now)
+    (joins_of c.from_vec.result)
 on_line g c =
     let below : Rank → Rank → Bool = below_by g.S.Side.NAME in
     let line : List Stop = c.args.line.now in

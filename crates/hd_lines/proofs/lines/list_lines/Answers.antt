@@ -14,7 +14,8 @@ abbrev none : Kept
 none = record { pit = record { height = pos 0; index = 0 }; nearest = None }
 
 pub borders-init : goal.borders-init
-borders-init c = subst (λ (xs : List BorderLine). AreListed c.args.kept.now c.args.borders.now c.args.firsts.now 0 xs) (sym c.in_ok-lines.ensures) (AreListed-none c.args.kept.now c.args.borders.now c.args.firsts.now)
+borders-init c = subst (λ (xs : List BorderLine). AreListed c.args.kept.now c.args.borders.now c.args.firsts.now 0 xs) (sym c.in_ok-lines.ensures)
+    (AreListed-none c.args.kept.now c.args.borders.now c.args.firsts.now)
 
 pub borders-preserved : goal.borders-preserved
 borders-preserved c = subst (λ (xs : List BorderLine). AreListed c.args.kept.now c.args.borders.now c.args.firsts.now (c.borders.number + 1) xs) (sym c.in_ok-push.ensures.ok)

@@ -15,7 +15,8 @@ loop-place-preserved g c =
     let at : slice_get c.args.borders.now c.loop-place.place ≡ Some x = slice_get-get_or c.args.borders.now c.loop-place.place none c.loop-place-test.true in
     record {
       inside = (let less = c.loop-place-test.true in omega arith);
-      lower = AreLower-more (below_by g.S.Side.NAME) g.met.S.Side.order c.args.borders.now c.requires.sorted c.loop-place.place x c.args.level at (sym c.below.ensures ∙ c.if-below.true) c.loop-place.invariant.lower;
+      lower = AreLower-more (below_by g.S.Side.NAME) g.met.S.Side.order c.args.borders.now c.requires.sorted c.loop-place.place x c.args.level at
+          (sym c.below.ensures ∙ c.if-below.true) c.loop-place.invariant.lower;
       falling = c.join.ensures.falling;
       long = c.join.ensures.long ∙ c.loop-place.invariant.long;
       joined = AreJoinedTo-more c.args.borders.now c.loop-place.place x at c.loop-place.classes.parents.items c.join.new.self.parents.items c.loop-place.invariant.joined c.join.result

@@ -51,11 +51,14 @@ borders-preserved g c =
     let one : ℕ = c.least_of-one.result in
     let other : ℕ = c.least_of-other.result in
     let first : Bool = not (eqb one other) in
-    let is : IsFirstOf (below_by g.S.Side.NAME) borders x first = IsFirstOf-split (below_by g.S.Side.NAME) g.met.S.Side.order borders c.requires.sorted n x old mid new one other first split c.join_lower-joined.ensures.joined
-    c.least_of-one.ensures.one c.least_of-one.ensures.same c.least_of-one.ensures.least c.least_of-other.ensures.one c.least_of-other.ensures.same c.least_of-other.ensures.least c.least_of-other.ensures.leasts
+    let is : IsFirstOf (below_by g.S.Side.NAME) borders x first = IsFirstOf-split
+    (below_by g.S.Side.NAME) g.met.S.Side.order borders c.requires.sorted n x old mid new one other first split c.join_lower-joined.ensures.joined
+    c.least_of-one.ensures.one c.least_of-one.ensures.same c.least_of-one.ensures.least c.least_of-other.ensures.one c.least_of-other.ensures.same c.least_of-other.ensures.least
+    c.least_of-other.ensures.leasts
     (differ-apart one other) (apart-differ one other) in
     record {
-      marked = AreMarked-more (below_by g.S.Side.NAME) g.met.S.Side.order borders c.requires.sorted c.requires.one c.args.numbers i x at (c.requires.numbered i none c.borders-test.true) c.borders.firsts.items first
+      marked = AreMarked-more (below_by g.S.Side.NAME) g.met.S.Side.order borders c.requires.sorted c.requires.one c.args.numbers i x at
+          (c.requires.numbered i none c.borders-test.true) c.borders.firsts.items first
           c.borders.invariant.marked is;
       long = c.least_of-other.ensures.long ∙ c.least_of-one.ensures.long ∙ c.join_lower-joined.ensures.long ∙ c.borders.invariant.long;
       falling = c.least_of-other.ensures.falling;

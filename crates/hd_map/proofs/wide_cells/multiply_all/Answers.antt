@@ -14,7 +14,8 @@ loop-index-preserved c =
     let size : c.len-index-end.result ≡ length c.args.numbers.now.items = c.len-index-end.ensures ∙ c.args.numbers.now.ok.0 in
     let inside : loop.index < length c.args.numbers.now.items = omega (arith, size, c.loop-index-test.true) in
     let product : to_z w64 ((of_z w64 c.index.result.now * of_z w64 c.args.factor) % 18446744073709551616) ≡ int_wrap w64 (c.index.result.now *ℤ c.args.factor) = search (rules, wraps) in
-    multiplied_more c.args.factor _ (to_z-of_z w64 c.args.factor c.ranges.factor) c.args.numbers.now.items loop.numbers.items loop.index c.index.result.now _ inside loop.invariant c.index.ensures product
+    multiplied_more c.args.factor _ (to_z-of_z w64 c.args.factor c.ranges.factor) c.args.numbers.now.items loop.numbers.items loop.index c.index.result.now _ inside loop.invariant
+    c.index.ensures product
 
 pub returns : goal.returns
 returns c =

@@ -12,5 +12,6 @@ dilate_by_offsets-requires-clause-heights g c =
 pub eroded-requires-clause-heights : goal.eroded-requires-clause-heights
 eroded-requires-clause-heights g c =
     let code = g.L.Lane.code in
-    rw c.deref_mut.ensures.value (ArePlain-dilated code c.args.size c.args.element.now code.most_height code.most_number c.args.heights.items c.in_ok-between.between.items c.requires.size.some_points c.requires.numbers c.requires.heights
+    rw c.deref_mut.ensures.value (ArePlain-dilated code c.args.size c.args.element.now code.most_height code.most_number c.args.heights.items c.in_ok-between.between.items
+    c.requires.size.some_points c.requires.numbers c.requires.heights
     (rw c.deref.ensures.value at c.in_ok-between.ensures))

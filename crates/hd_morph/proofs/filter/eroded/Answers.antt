@@ -33,7 +33,8 @@ all_negated-requires g c =
     let n = c.negate.new.values in
     let negatives : ArePlain code c.args.size (most_between code) n = ArePlain-negated code c.args.size (most_between code) c.args.heights.now n c.negate.ensures c.requires.heights in
     let made : ArePlainlyFiltered code Dilation c.args.size (turned_table e) n c.in_ok-lowered.lowered.items = rw c.in_ok-turned.ensures.turned at c.in_ok-lowered.ensures in
-    (ArePlain-dilated code c.args.size (turned_table e) (most_between code) code.most_number n c.in_ok-lowered.lowered.items c.requires.size.some_points (HasNumbersWithin-turned code.most_number e c.requires.numbers) negatives made).plain
+    (ArePlain-dilated code c.args.size (turned_table e) (most_between code) code.most_number n c.in_ok-lowered.lowered.items c.requires.size.some_points
+    (HasNumbersWithin-turned code.most_number e c.requires.numbers) negatives made).plain
 
 pub returns : goal.returns
 returns g c =
@@ -42,5 +43,7 @@ returns g c =
     let n = c.negate.new.values in
     let negatives : ArePlain code c.args.size (most_between code) n = ArePlain-negated code c.args.size (most_between code) c.args.heights.now n c.negate.ensures c.requires.heights in
     let made : ArePlainlyFiltered code Dilation c.args.size (turned_table e) n c.in_ok-lowered.lowered.items = rw c.in_ok-turned.ensures.turned at c.in_ok-lowered.ensures in
-    let lowered = ArePlain-dilated code c.args.size (turned_table e) (most_between code) code.most_number n c.in_ok-lowered.lowered.items c.requires.size.some_points (HasNumbersWithin-turned code.most_number e c.requires.numbers) negatives made in
-    ArePlainlyFiltered-eroded code c.args.size e (most_filtered code) c.args.heights.now n c.in_ok-lowered.lowered.items c.all_negated.result.items c.requires.element c.negate.ensures made.filtered lowered c.all_negated.ensures
+    let lowered = ArePlain-dilated code c.args.size (turned_table e) (most_between code) code.most_number n c.in_ok-lowered.lowered.items c.requires.size.some_points
+    (HasNumbersWithin-turned code.most_number e c.requires.numbers) negatives made in
+    ArePlainlyFiltered-eroded code c.args.size e (most_filtered code) c.args.heights.now n c.in_ok-lowered.lowered.items c.all_negated.result.items c.requires.element
+    c.negate.ensures made.filtered lowered c.all_negated.ensures

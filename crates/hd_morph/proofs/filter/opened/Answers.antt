@@ -12,5 +12,6 @@ eroded-requires-clause-heights g c =
 pub dilate_by_offsets-requires-clause-heights : goal.dilate_by_offsets-requires-clause-heights
 dilate_by_offsets-requires-clause-heights g c =
     let code = g.L.Lane.code in
-    rw c.deref.ensures.value (ArePlain-eroded code c.args.size c.args.element.now code.most_height code.most_number c.args.heights.items c.in_ok-between.between.items c.requires.size.some_points c.requires.numbers c.requires.heights
+    rw c.deref.ensures.value (ArePlain-eroded code c.args.size c.args.element.now code.most_height code.most_number c.args.heights.items c.in_ok-between.between.items
+    c.requires.size.some_points c.requires.numbers c.requires.heights
     (rw c.deref_mut.ensures.value at c.in_ok-between.ensures))

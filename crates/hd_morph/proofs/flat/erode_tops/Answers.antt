@@ -46,8 +46,10 @@ negate-requires-2 g c =
     let negatives : ArePlain code c.args.size (most_between code) n = ArePlain-negated code c.args.size (most_between code) c.args.tops.now n c.negate.ensures c.requires.tops in
     let raised : AreFlatlyDilated code c.args.size (e.width / 2) (e.height / 2) c.args.number n c.raise_tops.new.tops =
     rw (to_z-of_z w64 c.args.number c.ranges.number, c.width.ensures.width, c.height.ensures.height) at c.raise_tops.ensures in
-    let made : ArePlainlyFiltered code Dilation c.args.size (turned_table e) n c.raise_tops.new.tops = raised.each (turned_table e) (IsFlat-turned e (e.width / 2) (e.height / 2) c.args.number c.requires.element c.requires.flat) in
-    (ArePlain-dilated code c.args.size (turned_table e) (most_between code) code.most_number n c.raise_tops.new.tops c.requires.size.some_points (HasNumbersWithin-turned code.most_number e c.requires.numbers) negatives made).plain
+    let made : ArePlainlyFiltered code Dilation c.args.size (turned_table e) n c.raise_tops.new.tops = raised.each (turned_table e)
+    (IsFlat-turned e (e.width / 2) (e.height / 2) c.args.number c.requires.element c.requires.flat) in
+    (ArePlain-dilated code c.args.size (turned_table e) (most_between code) code.most_number n c.raise_tops.new.tops c.requires.size.some_points
+    (HasNumbersWithin-turned code.most_number e c.requires.numbers) negatives made).plain
 
 pub returns : goal.returns
 returns g c =
@@ -57,6 +59,9 @@ returns g c =
     let negatives : ArePlain code c.args.size (most_between code) n = ArePlain-negated code c.args.size (most_between code) c.args.tops.now n c.negate.ensures c.requires.tops in
     let raised : AreFlatlyDilated code c.args.size (e.width / 2) (e.height / 2) c.args.number n c.raise_tops.new.tops =
     rw (to_z-of_z w64 c.args.number c.ranges.number, c.width.ensures.width, c.height.ensures.height) at c.raise_tops.ensures in
-    let made : ArePlainlyFiltered code Dilation c.args.size (turned_table e) n c.raise_tops.new.tops = raised.each (turned_table e) (IsFlat-turned e (e.width / 2) (e.height / 2) c.args.number c.requires.element c.requires.flat) in
-    let lowered = ArePlain-dilated code c.args.size (turned_table e) (most_between code) code.most_number n c.raise_tops.new.tops c.requires.size.some_points (HasNumbersWithin-turned code.most_number e c.requires.numbers) negatives made in
-    ArePlainlyFiltered-eroded code c.args.size e (most_filtered code) c.args.tops.now n c.raise_tops.new.tops c.negate-2.new.values c.requires.element c.negate.ensures made.filtered lowered c.negate-2.ensures
+    let made : ArePlainlyFiltered code Dilation c.args.size (turned_table e) n c.raise_tops.new.tops = raised.each (turned_table e)
+    (IsFlat-turned e (e.width / 2) (e.height / 2) c.args.number c.requires.element c.requires.flat) in
+    let lowered = ArePlain-dilated code c.args.size (turned_table e) (most_between code) code.most_number n c.raise_tops.new.tops c.requires.size.some_points
+    (HasNumbersWithin-turned code.most_number e c.requires.numbers) negatives made in
+    ArePlainlyFiltered-eroded code c.args.size e (most_filtered code) c.args.tops.now n c.raise_tops.new.tops c.negate-2.new.values c.requires.element c.negate.ensures
+    made.filtered lowered c.negate-2.ensures

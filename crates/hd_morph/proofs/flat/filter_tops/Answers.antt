@@ -27,7 +27,8 @@ erode_tops-requires-in-Opening-clause-tops g c =
     rw c.requires.same (ArePlain-more code c.args.size code.most_height (most_between code) c.args.heights.now (omega arith) c.requires.heights)
 
 pub erode_tops-requires-in-Opening-clause-alike : goal.erode_tops-requires-in-Opening-clause-alike
-erode_tops-requires-in-Opening-clause-alike g c = let code = g.L.Lane.code in StandAlike-itself (values_of code c.args.heights.now) (values_of code c.args.tops.now) (ap (values_of code) c.requires.same)
+erode_tops-requires-in-Opening-clause-alike g c = let code = g.L.Lane.code in StandAlike-itself (values_of code c.args.heights.now) (values_of code c.args.tops.now)
+    (ap (values_of code) c.requires.same)
 
 pub dilate_tops-requires-in-Closing-clause-tops : goal.dilate_tops-requires-in-Closing-clause-tops
 dilate_tops-requires-in-Closing-clause-tops g c =
@@ -35,12 +36,14 @@ dilate_tops-requires-in-Closing-clause-tops g c =
     rw c.requires.same (ArePlain-more code c.args.size code.most_height (most_between code) c.args.heights.now (omega arith) c.requires.heights)
 
 pub dilate_tops-requires-in-Closing-clause-alike : goal.dilate_tops-requires-in-Closing-clause-alike
-dilate_tops-requires-in-Closing-clause-alike g c = let code = g.L.Lane.code in StandAlike-itself (values_of code c.args.heights.now) (values_of code c.args.tops.now) (ap (values_of code) c.requires.same)
+dilate_tops-requires-in-Closing-clause-alike g c = let code = g.L.Lane.code in StandAlike-itself (values_of code c.args.heights.now) (values_of code c.args.tops.now)
+    (ap (values_of code) c.requires.same)
 
 pub dilate_tops-requires-in-Opening-clause-tops : goal.dilate_tops-requires-in-Opening-clause-tops
 dilate_tops-requires-in-Opening-clause-tops g c =
     let code = g.L.Lane.code in
-    ArePlain-eroded code c.args.size c.args.element.now code.most_height code.most_number c.args.heights.now c.erode_tops-in-Opening.new.tops c.requires.size.some_points c.requires.numbers c.requires.heights
+    ArePlain-eroded code c.args.size c.args.element.now code.most_height code.most_number c.args.heights.now c.erode_tops-in-Opening.new.tops c.requires.size.some_points
+    c.requires.numbers c.requires.heights
     (rw c.requires.same at c.erode_tops-in-Opening.ensures)
 
 pub dilate_tops-requires-in-Opening-clause-alike : goal.dilate_tops-requires-in-Opening-clause-alike
@@ -53,7 +56,8 @@ dilate_tops-requires-in-Opening-clause-alike g c =
 pub erode_tops-requires-in-Closing-clause-tops : goal.erode_tops-requires-in-Closing-clause-tops
 erode_tops-requires-in-Closing-clause-tops g c =
     let code = g.L.Lane.code in
-    ArePlain-dilated code c.args.size c.args.element.now code.most_height code.most_number c.args.heights.now c.dilate_tops-in-Closing.new.tops c.requires.size.some_points c.requires.numbers c.requires.heights
+    ArePlain-dilated code c.args.size c.args.element.now code.most_height code.most_number c.args.heights.now c.dilate_tops-in-Closing.new.tops c.requires.size.some_points
+    c.requires.numbers c.requires.heights
     (rw c.requires.same at c.dilate_tops-in-Closing.ensures)
 
 pub erode_tops-requires-in-Closing-clause-alike : goal.erode_tops-requires-in-Closing-clause-alike

@@ -19,6 +19,7 @@ returns g c =
     let made : AreHeightsOf code m lists.before.items × AreFilteredFrom code c.args.filter m c.args.element.now lists.after.items = rw c.in-Some.is at c.in_ok-lists.ensures in
     record {
       held = made.0;
-      made = AreNewHeights-filtered code c.args.filter m c.args.element.now lists.after.items made.1 (g.met.G.Heights.whole c.args.grid.now) (rw c.deref.ensures.value at c.in_default-first_outside.ensures);
+      made = AreNewHeights-filtered code c.args.filter m c.args.element.now lists.after.items made.1 (g.met.G.Heights.whole c.args.grid.now)
+          (rw c.deref.ensures.value at c.in_default-first_outside.ensures);
       plain = made.1.plain;
     }

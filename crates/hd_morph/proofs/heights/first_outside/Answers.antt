@@ -43,7 +43,14 @@ returns-then-are_between g c =
     let m = g.G.Heights.map c.args.grid.now in
     let least : SFits w64 c.least_of-least.result = search rules in
     let greatest : SFits w64 c.greatest_of-greatest.result = search rules in
-    let tested = rw (c.if-are_between.true, to_z-of_z w64 _ least, to_z-of_z w64 _ greatest, c.least_of-least.ensures, c.greatest_of-greatest.ensures, c.data_type-data_type.ensures) at c.are_between.ensures in
+    let tested = rw (
+      c.if-are_between.true,
+      to_z-of_z w64 _ least,
+      to_z-of_z w64 _ greatest,
+      c.least_of-least.ensures,
+      c.greatest_of-greatest.ensures,
+      c.data_type-data_type.ensures,
+    ) at c.are_between.ensures in
     AreOfType-between m (values_of g.L.Lane.code c.args.numbers.now) (tested.0 refl)
 
 pub are_between-requires : goal.are_between-requires

@@ -11,10 +11,12 @@ raise_rows-requires-clause-blank g c =
 pub settle-requires-clause-topped : goal.settle-requires-clause-topped
 settle-requires-clause-topped g c =
     let code = g.L.Lane.code in
-    AreTopped-raised code c.args.size c.args.element.now c.args.heights.now (values_of code c.raise_rows.new.tops) c.requires.size.some_points c.requires.element c.requires.numbers c.requires.heights c.raise_rows.ensures
+    AreTopped-raised code c.args.size c.args.element.now c.args.heights.now (values_of code c.raise_rows.new.tops) c.requires.size.some_points c.requires.element c.requires.numbers
+    c.requires.heights c.raise_rows.ensures
 
 pub returns : goal.returns
 returns g c =
     let code = g.L.Lane.code in
-    ArePlainlyFiltered-settled code c.args.size c.args.element.now c.args.heights.now (values_of code c.raise_rows.new.tops) c.settle.new.tops c.requires.size.some_points c.requires.element c.requires.numbers c.requires.heights
+    ArePlainlyFiltered-settled code c.args.size c.args.element.now c.args.heights.now
+    (values_of code c.raise_rows.new.tops) c.settle.new.tops c.requires.size.some_points c.requires.element c.requires.numbers c.requires.heights
     c.raise_rows.ensures c.settle.ensures

@@ -22,7 +22,8 @@ returns-in_default g c =
 pub returns-in_default-row_before : goal.returns-in_default-row_before
 returns-in_default-row_before g c =
     let code = g.L.Lane.code in
-    IsRowRaisedOnce-no_row c.args.size c.args.element.now (relief c.args.size (values_of code c.args.heights.now)) c.args.y c.args.offset (values_of code c.args.tops.now) c.in_default-row_before.ensures.none
+    IsRowRaisedOnce-no_row c.args.size c.args.element.now (relief c.args.size (values_of code c.args.heights.now)) c.args.y c.args.offset
+    (values_of code c.args.tops.now) c.in_default-row_before.ensures.none
 
 pub returns : goal.returns
 returns g c =
@@ -37,7 +38,8 @@ returns g c =
     let raised : AreRaisedAcross (take c.args.size.points (drop start heights)) (c.args.element.now.width / 2) c.args.offset.x c.in-Some.number tops new =
     rw (sym c.width.ensures.width) (subst (λ k. AreRaisedAcross (take k (drop start heights)) (c.width.result / 2) c.args.offset.x c.in-Some.number tops new) (omega arith) across) in
     IsRowRaisedOnce-across c.args.size c.args.element.now heights c.args.y c.in-Some-row_before.from start c.args.offset c.in-Some.number tops new
-    (values_of-length code c.args.heights.now ∙ c.requires.heights.whole) (values_of-length code c.args.tops.now ∙ c.requires.whole) c.requires.row row.0 row.1 c.requires.column c.requires.table_row (sym c.in-Some.ensures) refl raised
+    (values_of-length code c.args.heights.now ∙ c.requires.heights.whole) (values_of-length code c.args.tops.now
+    ∙ c.requires.whole) c.requires.row row.0 row.1 c.requires.column c.requires.table_row (sym c.in-Some.ensures) refl raised
 
 pub overflow_mul-start : goal.overflow_mul-start
 overflow_mul-start g c = omega (arith, row_within c.args.size c.in-Some-row_before.from c.in-Some-row_before.ensures.some.0, c.requires.size.cells, c.requires.heights.whole)

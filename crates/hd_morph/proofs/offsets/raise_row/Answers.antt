@@ -14,7 +14,8 @@ loop-index-preserved g c =
     let code = g.L.Lane.code in
     let odd = c.table-table.ensures.element.odd_width in
     let width = c.width-width.ensures.width in
-    RowRaisedBefore-more c.args.size c.args.element.now (relief c.args.size (values_of code c.args.heights.now)) c.args.y c.loop-index.index _ (values_of code c.loop-index.tops) (values_of code c.raise_by.new.tops)
+    RowRaisedBefore-more c.args.size c.args.element.now (relief c.args.size (values_of code c.args.heights.now)) c.args.y c.loop-index.index _ (values_of code c.loop-index.tops)
+    (values_of code c.raise_by.new.tops)
     (rw width (omega arith)) (rw width (omega arith)) c.loop-index.invariant c.raise_by.ensures
 
 pub returns : goal.returns
@@ -22,4 +23,5 @@ returns g c =
     let code = g.L.Lane.code in
     let whole = c.table-table.ensures.element.whole in
     let table = ap length c.table-table.ensures.table in
-    IsRowRaised-all c.args.size c.args.element.now (relief c.args.size (values_of code c.args.heights.now)) c.args.y c.loop-index.index (values_of code c.loop-index.tops) (omega arith) c.loop-index.invariant
+    IsRowRaised-all c.args.size c.args.element.now (relief c.args.size (values_of code c.args.heights.now)) c.args.y c.loop-index.index (values_of code c.loop-index.tops)
+    (omega arith) c.loop-index.invariant

@@ -14,13 +14,15 @@ pub raise_row-requires-clause-blank : goal.raise_row-requires-clause-blank
 raise_row-requires-clause-blank g c =
     let code = g.L.Lane.code in
     rw (values_of-part code (c.loop-y.y * c.args.size.points) _ c.loop-y.tops)
-    (RowsRaised-blank c.args.size c.args.element.now (relief c.args.size (values_of code c.args.heights.now)) c.loop-y.y _ (values_of code c.loop-y.tops) c.loop-y-test.true (omega arith) c.loop-y.invariant)
+    (RowsRaised-blank c.args.size c.args.element.now (relief c.args.size (values_of code c.args.heights.now)) c.loop-y.y _ (values_of code c.loop-y.tops) c.loop-y-test.true
+    (omega arith) c.loop-y.invariant)
 
 pub loop-y-preserved : goal.loop-y-preserved
 loop-y-preserved g c =
     let code = g.L.Lane.code in
     rw (values_of-mid code (c.loop-y.y * c.args.size.points) _ c.loop-y.tops c.raise_row.new.tops)
-    (RowsRaised-more c.args.size c.args.element.now (relief c.args.size (values_of code c.args.heights.now)) c.loop-y.y _ (values_of code c.loop-y.tops) (values_of code c.raise_row.new.tops) c.loop-y-test.true (omega arith)
+    (RowsRaised-more c.args.size c.args.element.now (relief c.args.size (values_of code c.args.heights.now)) c.loop-y.y _ (values_of code c.loop-y.tops)
+    (values_of code c.raise_row.new.tops) c.loop-y-test.true (omega arith)
     c.loop-y.invariant c.raise_row.ensures)
 
 pub returns : goal.returns

@@ -21,4 +21,5 @@ returns g c =
     let values = values_of code c.args.numbers.now in
     let least = to_z-of_z w64 c.args.least c.ranges.least in
     let greatest = to_z-of_z w64 c.args.greatest c.ranges.greatest in
-    AreBetween-tested c.args.least c.args.greatest values c.loop-place.place c.loop-place.all (omega (arith, c.loop-place-test.false, values_of-length code c.args.numbers.now)) (rw (least, greatest) at c.loop-place.invariant)
+    AreBetween-tested c.args.least c.args.greatest values c.loop-place.place c.loop-place.all (omega (arith, c.loop-place-test.false, values_of-length code c.args.numbers.now))
+    (rw (least, greatest) at c.loop-place.invariant)

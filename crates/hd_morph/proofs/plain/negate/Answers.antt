@@ -15,7 +15,8 @@ negated-requires g c =
 
 pub loop-place-preserved : goal.loop-place-preserved
 loop-place-preserved g c =
-    NegatedBefore-more g.L.Lane.code c.args.values.now c.loop-place.values c.loop-place.place c.index-values-place.result c.negated.result (omega arith) c.index-values-place.is c.negated.ensures c.loop-place.invariant
+    NegatedBefore-more g.L.Lane.code c.args.values.now c.loop-place.values c.loop-place.place c.index-values-place.result c.negated.result
+    (omega arith) c.index-values-place.is c.negated.ensures c.loop-place.invariant
 
 pub returns : goal.returns
 returns g c = AreNegated-all g.L.Lane.code c.args.values.now c.loop-place.values c.loop-place.place (omega arith) c.loop-place.invariant

@@ -16,7 +16,8 @@ settled-requires-clause-topped g c =
     let size = c.requires.topped.whole in
     let height = value_at-read code heights place c.index-heights-place.result (omega (arith, size, values_of-length code heights, values_of-length code c.args.tops.now)) c.index-heights-place.is in
     rw height
-    (λ z is. SettledBefore-within code (most_filtered code) (values_of code heights) c.args.tops.now c.loop-place.tops _ place c.index-tops-place.result z (omega arith) c.index-tops-place.is c.requires.topped c.loop-place.invariant is)
+    (λ z is. SettledBefore-within code (most_filtered code) (values_of code heights) c.args.tops.now c.loop-place.tops _ place c.index-tops-place.result z
+    (omega arith) c.index-tops-place.is c.requires.topped c.loop-place.invariant is)
 
 pub loop-place-preserved : goal.loop-place-preserved
 loop-place-preserved g c =
@@ -25,7 +26,8 @@ loop-place-preserved g c =
     let place = c.loop-place.place in
     let size = c.requires.topped.whole in
     let height = value_at-read code heights place c.index-heights-place.result (omega (arith, size, values_of-length code heights, values_of-length code c.args.tops.now)) c.index-heights-place.is in
-    SettledBefore-more code (values_of code heights) c.args.tops.now c.loop-place.tops _ place c.index-tops-place.result c.settled.result (omega arith) c.index-tops-place.is (rw height at c.settled.ensures) c.loop-place.invariant
+    SettledBefore-more code (values_of code heights) c.args.tops.now c.loop-place.tops _ place c.index-tops-place.result c.settled.result (omega arith) c.index-tops-place.is
+    (rw height at c.settled.ensures) c.loop-place.invariant
 
 pub returns : goal.returns
 returns g c =

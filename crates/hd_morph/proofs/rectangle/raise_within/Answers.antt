@@ -10,7 +10,16 @@ loop-y-init g c = RaisedBefore-none g.L.Lane.code c.args.size c.args.from c.args
 pub offset_bounds-tops-start : goal.offset_bounds-tops-start
 offset_bounds-tops-start g c =
     let to_end : c.loop-y.y * c.args.size.points + c.args.from.x ≤ length c.loop-y.tops =
-    omega (arith, c.loop-y.invariant.whole, c.requires.heights.whole, c.requires.columns, c.requires.to.column, c.loop-y-test.true, mul-le-mul_right c.args.size.points c.requires.to.profile, mul-le-mul_right c.args.size.points c.loop-y-test.true) in
+    omega (
+      arith,
+      c.loop-y.invariant.whole,
+      c.requires.heights.whole,
+      c.requires.columns,
+      c.requires.to.column,
+      c.loop-y-test.true,
+      mul-le-mul_right c.args.size.points c.requires.to.profile,
+      mul-le-mul_right c.args.size.points c.loop-y-test.true,
+    ) in
     search (rules, to_end)
 
 pub settle-requires-clause-topped : goal.settle-requires-clause-topped

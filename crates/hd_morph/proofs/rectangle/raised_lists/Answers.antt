@@ -13,7 +13,8 @@ returns-in-Some-first_outside g c =
     let olds = c.in-Some.before.items in
     let news = c.in_ok-after.after.items in
     let are : AreHeightsOf narrow m olds = rw c.in-Some.is at c.in_ok-before.ensures in
-    let raised : AreNumbersRaised narrow m.size c.args.from c.args.to c.args.number olds news = rw (c.deref.ensures.value, c.size.ensures, to_z-of_z w64 c.args.number c.ranges.number) at c.in_ok-after.ensures in
+    let raised : AreNumbersRaised narrow m.size c.args.from c.args.to c.args.number olds news =
+    rw (c.deref.ensures.value, c.size.ensures, to_z-of_z w64 c.args.number c.ranges.number) at c.in_ok-after.ensures in
     record {
       heights = relief m.size (values_of narrow news);
       raised = AreRaisedWithin-map narrow m c.args.from c.args.to c.args.number olds news raised are;
@@ -26,11 +27,13 @@ returns g c =
     let olds = c.in-Some.before.items in
     let news = c.in_ok-after.after.items in
     let are : AreHeightsOf narrow m olds = rw c.in-Some.is at c.in_ok-before.ensures in
-    let raised : AreNumbersRaised narrow m.size c.args.from c.args.to c.args.number olds news = rw (c.deref.ensures.value, c.size.ensures, to_z-of_z w64 c.args.number c.ranges.number) at c.in_ok-after.ensures in
+    let raised : AreNumbersRaised narrow m.size c.args.from c.args.to c.args.number olds news =
+    rw (c.deref.ensures.value, c.size.ensures, to_z-of_z w64 c.args.number c.ranges.number) at c.in_ok-after.ensures in
     let some = (g.met.G.Heights.whole c.args.grid.now).size.some_points in
     record {
       held = are;
-      plain = ArePlain-raised narrow m c.args.from c.args.to c.args.number olds news raised some (omega (arith, ints, c.if-number.false)) (omega (arith, ints, c.if-number-gt-MOST_NARROW_NUMBER.false)) are.plain;
+      plain = ArePlain-raised narrow m c.args.from c.args.to c.args.number olds news raised some (omega (arith, ints, c.if-number.false))
+          (omega (arith, ints, c.if-number-gt-MOST_NARROW_NUMBER.false)) are.plain;
       raised = AreRaisedWithin-map narrow m c.args.from c.args.to c.args.number olds news raised are;
       of_type = rw c.deref-2.ensures.value at c.in_default-first_outside.ensures;
     }

@@ -12,5 +12,6 @@ wider-preserved g c =
     record {
       some = omega arith;
       below = omega arith;
-      ahead = AreAheadGreatests-join (values_of code c.args.tops.now) (values_of code c.wider.tops) (values_of code c.widen.new.tops) c.args.stride c.wider.seen c.min-step.result (omega arith) c.wider.invariant.ahead c.widen.ensures;
+      ahead = AreAheadGreatests-join (values_of code c.args.tops.now) (values_of code c.wider.tops) (values_of code c.widen.new.tops) c.args.stride c.wider.seen c.min-step.result
+          (omega arith) c.wider.invariant.ahead c.widen.ensures;
     }

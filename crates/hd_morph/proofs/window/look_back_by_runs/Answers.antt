@@ -5,7 +5,12 @@ use Rattle.hd_morph.proofs.Windows.{AreLookedBack-none, AreLookedBack-join}
 use Rattle.hd_morph.proofs.window.look_back_by_runs.Goals as goal
 
 pub run-init : goal.run-init
-run-init g c = record { after = omega arith; below = omega arith; seen = AreLookedBack-none (values_of g.L.Lane.code c.args.tops.now) c.args.step (length c.args.tops.now) (length c.args.tops.now) (omega arith) }
+run-init g c = record {
+  after = omega arith;
+  below = omega arith;
+  seen = AreLookedBack-none (values_of g.L.Lane.code c.args.tops.now) c.args.step (length c.args.tops.now)
+      (length c.args.tops.now) (omega arith);
+}
 
 pub run-preserved : goal.run-preserved
 run-preserved g c =
@@ -13,7 +18,8 @@ run-preserved g c =
     record {
       after = omega arith;
       below = omega arith;
-      seen = AreLookedBack-join (values_of code c.args.tops.now) (values_of code c.run.tops) (values_of code c.look_run_back.new.tops) c.args.step _ c.run.to (length c.args.tops.now) (omega arith) (omega arith) (omega arith)
+      seen = AreLookedBack-join (values_of code c.args.tops.now) (values_of code c.run.tops) (values_of code c.look_run_back.new.tops) c.args.step _ c.run.to
+          (length c.args.tops.now) (omega arith) (omega arith) (omega arith)
           (omega arith) c.requires.some c.run.invariant.seen c.look_run_back.ensures;
     }
 

@@ -20,7 +20,8 @@ loop-place-preserved g c =
       after = omega arith;
       before = omega arith;
       seen = rw (map-set code.shown tops at c.larger_of.result)
-          (AreLookedBack-more (values_of code c.args.tops.now) (values_of code tops) c.args.step at c.loop-place.place c.args.to (code.shown c.larger_of.result) (omega arith) (omega arith) (omega arith) (omega (arith, values_of-length code c.args.tops.now))
+          (AreLookedBack-more (values_of code c.args.tops.now) (values_of code tops) c.args.step at c.loop-place.place c.args.to (code.shown c.larger_of.result) (omega arith)
+          (omega arith) (omega arith) (omega (arith, values_of-length code c.args.tops.now))
           (rw (here, there) at c.larger_of.ensures) c.loop-place.invariant.seen);
     }
 

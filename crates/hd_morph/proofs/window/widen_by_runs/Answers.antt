@@ -12,7 +12,8 @@ run-preserved g c =
     let code = g.L.Lane.code in
     record {
       below = omega arith;
-      widened = AreWidened-join (values_of code c.args.tops.now) (values_of code c.run.tops) (values_of code c.widen_run.new.tops) c.args.step 0 c.run.from _ (omega arith) (omega arith) c.run.invariant.widened c.widen_run.ensures;
+      widened = AreWidened-join (values_of code c.args.tops.now) (values_of code c.run.tops) (values_of code c.widen_run.new.tops) c.args.step 0 c.run.from _ (omega arith)
+          (omega arith) c.run.invariant.widened c.widen_run.ensures;
     }
 
 pub returns : goal.returns

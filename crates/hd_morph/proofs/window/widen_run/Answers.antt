@@ -20,7 +20,8 @@ loop-place-preserved g c =
       after = omega arith;
       before = omega arith;
       widened = rw (map-set code.shown tops place c.larger_of.result)
-          (AreWidened-more (values_of code c.args.tops.now) (values_of code tops) c.args.step c.args.from place (code.shown c.larger_of.result) c.loop-place.invariant.after (omega (arith, values_of-length code c.args.tops.now))
+          (AreWidened-more (values_of code c.args.tops.now) (values_of code tops) c.args.step c.args.from place (code.shown c.larger_of.result) c.loop-place.invariant.after
+          (omega (arith, values_of-length code c.args.tops.now))
           (rw (here, there) at c.larger_of.ensures) c.loop-place.invariant.widened);
     }
 

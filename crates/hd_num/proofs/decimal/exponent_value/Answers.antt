@@ -18,4 +18,5 @@ pub returns-clause-form : goal.returns-clause-form
 returns-clause-form c =
     let count = count_of-parts c.unsigned_part-digits.result.now c.in_ok-magnitude.magnitude c.in_ok-magnitude.ensures in
     rw (IsBounded-kept c.signed.result 999 (omega arith) c.signed.ensures.small)
-    (is_exponent-right c.args.text.now c.unsigned_part-digits.result.now c.in_ok-magnitude.magnitude c.is_negative.result c.signed.result c.unsigned_part-digits.ensures (omega arith) count c.is_negative.ensures c.signed.ensures.value)
+    (is_exponent-right c.args.text.now c.unsigned_part-digits.result.now c.in_ok-magnitude.magnitude c.is_negative.result c.signed.result c.unsigned_part-digits.ensures
+    (omega arith) count c.is_negative.ensures c.signed.ensures.value)

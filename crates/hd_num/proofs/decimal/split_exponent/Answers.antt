@@ -9,7 +9,8 @@ use Rattle.hd_num.proofs.decimal.split_exponent.Goals as goal
 pub returns-in_err-exponent-in-Some : goal.returns-in_err-exponent-in-Some
 returns-in_err-exponent-in-Some c =
     let place = position_or_len-found (is_in (101 ∷ 69 ∷ [])) is_exponent_mark is_exponent_mark-is_in c.args.text.now c.in-Some.place c.in-Some.ensures.0 c.in-Some.ensures.1 in
-    rw c.from_residual.ensures (has_exponent_form-broken c.args.text.now _ c.in-Some.place place c.in-Some.ensures.0.high (take_rest c.args.text.now (c.in-Some.place + 1)) c.in_err-exponent-in-Some.ensures.form)
+    rw c.from_residual.ensures (has_exponent_form-broken c.args.text.now _ c.in-Some.place place c.in-Some.ensures.0.high
+    (take_rest c.args.text.now (c.in-Some.place + 1)) c.in_err-exponent-in-Some.ensures.form)
 
 pub returns-in_ok-exponent-in-Some : goal.returns-in_ok-exponent-in-Some
 returns-in_ok-exponent-in-Some c =

@@ -13,4 +13,5 @@ returns-in_err-push_unsigned-clause-err c = OnErr-told c.from_residual.result
 
 pub returns-clause-err : goal.returns-clause-err
 returns-clause-err c = on_err_weaker c.push_fraction.result
-    (prefix_then c.args.out.now c.push_unsigned.new.out c.push_fraction.new.out (decimal (c.args.p.thousandths / 1000)) (fraction_text (c.args.p.thousandths % 1000) ++ 37 ∷ []) (c.in_ok-push_unsigned.ensures.ok ∙ ap (λ n. c.args.out.now ++ decimal n) c.from.ensures)) c.push_fraction.ensures.err
+    (prefix_then c.args.out.now c.push_unsigned.new.out c.push_fraction.new.out (decimal (c.args.p.thousandths / 1000)) (fraction_text (c.args.p.thousandths % 1000) ++ 37 ∷ [])
+    (c.in_ok-push_unsigned.ensures.ok ∙ ap (λ n. c.args.out.now ++ decimal n) c.from.ensures)) c.push_fraction.ensures.err

@@ -31,5 +31,6 @@ returns-clause-err c =
     let whole = magnitude_text-with_places c.args.magnitude unit c.args.places (c.pow-unit.ensures ∙ ap (λ n. 10 ^ n) c.from.ensures) c.requires.some in
     on_err_weaker c.push_places.result
     (λ h. subst (AppendsPrefix c.args.out.now c.push_places.new.out) whole
-    (prefix_then c.args.out.now c.push_unsigned.new.out c.push_places.new.out (decimal (c.args.magnitude / unit)) (46 ∷ padded c.args.places (c.args.magnitude % unit)) c.in_ok-push_unsigned.ensures.ok h))
+    (prefix_then c.args.out.now c.push_unsigned.new.out c.push_places.new.out (decimal (c.args.magnitude / unit))
+    (46 ∷ padded c.args.places (c.args.magnitude % unit)) c.in_ok-push_unsigned.ensures.ok h))
     c.push_places.ensures.err

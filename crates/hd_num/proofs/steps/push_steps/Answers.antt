@@ -34,6 +34,7 @@ returns-clause-err c =
       | else-steps-lt0 w ↦
           let plus : int_lt c.args.steps (pos 0) ≡ false = ap (λ z. int_lt z (pos 0)) (sym kept) ∙ w.if-steps-lt0.false in
           on_err_weaker c.push_magnitude.result
-          (λ h. subst (λ t. AppendsPrefix t c.push_magnitude.new.out (steps_text c.args.steps c.args.places)) w.out-is (subst (AppendsPrefix c.if-steps-lt0.out c.push_magnitude.new.out) (steps_text-unsigned c.args.steps n c.args.places magnitude plus) h))
+          (λ h. subst (λ t. AppendsPrefix t c.push_magnitude.new.out (steps_text c.args.steps c.args.places)) w.out-is
+          (subst (AppendsPrefix c.if-steps-lt0.out c.push_magnitude.new.out) (steps_text-unsigned c.args.steps n c.args.places magnitude plus) h))
           c.push_magnitude.ensures.err
     ]

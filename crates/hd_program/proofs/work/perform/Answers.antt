@@ -9,7 +9,11 @@ use Rattle.hd_run.specs.Outcome.{IsOutcomeOfCheck, IsOutcomeOfRun}
 use Rattle.hd_run.specs.ReadOrder.{reading}
 use Rattle.hd_run.specs.RunResult.{IsBegun}
 use Rattle.hd_program.specs.Texts.{usage_text}
-use Rattle.hd_program.proofs.Ends.{EndsDemo-cause, EndsAs-demo, EndsDemo-flushed, EndsDemo-no_read_fault, EndsDemo-no_usage, form-some, SavesInTurn-request, EndsRun-cause, EndsAs-run, EndsRun-flushed, EndsRun-no_usage, ReadsInOrder-run, EndsRun-read_fault, EndsRun-saves, EndsRun-unread, ReadsWithin-run, StopsWithin-second, ReadsInOrder-unformed, SavesInTurn-unformed, ReadsInOrder-unnamed, ReadsWithin-unread, Finishes-usage_cause, EndsAs-usage, Finishes-usage_flushed, Finishes-usage_no_read_fault, Finishes-usage_status}
+use Rattle.hd_program.proofs.Ends.{EndsDemo-cause, EndsAs-demo, EndsDemo-flushed, EndsDemo-no_read_fault, EndsDemo-no_usage, form-some}
+use Rattle.hd_program.proofs.Ends.{SavesInTurn-request, EndsRun-cause, EndsAs-run, EndsRun-flushed, EndsRun-no_usage, ReadsInOrder-run}
+use Rattle.hd_program.proofs.Ends.{EndsRun-read_fault, EndsRun-saves, EndsRun-unread, ReadsWithin-run, StopsWithin-second, ReadsInOrder-unformed}
+use Rattle.hd_program.proofs.Ends.{SavesInTurn-unformed, ReadsInOrder-unnamed, ReadsWithin-unread, Finishes-usage_cause, EndsAs-usage}
+use Rattle.hd_program.proofs.Ends.{Finishes-usage_flushed, Finishes-usage_no_read_fault, Finishes-usage_status}
 use Rattle.hd_program.proofs.IsWork.{NoAnswers, IsWork-check, IsWork-run}
 use Rattle.hd_program.proofs.work.perform.Goals as goal
 
@@ -21,10 +25,12 @@ unformed f (Some x) found is none = absurd (form-some found (f x) is none)
 pub returns-in_default-clause-outcome : goal.returns-in_default-clause-outcome
 unfolding usage_text
 returns-in_default-clause-outcome g c = λ bytes second told.
-    EndsAs-usage (map string_bytes c.args.words.now) bytes second _ _ _ _ _ _ _ _ _ (unformed command_for (form_of (map string_bytes c.args.words.now)) c.command_of.result c.command_of.ensures c.in_default.is) c.as_bytes.ensures.value refl c.finish.ensures
+    EndsAs-usage (map string_bytes c.args.words.now) bytes second _ _ _ _ _ _ _ _ _
+    (unformed command_for (form_of (map string_bytes c.args.words.now)) c.command_of.result c.command_of.ensures c.in_default.is) c.as_bytes.ensures.value refl c.finish.ensures
 
 pub returns-in_default-clause-order : goal.returns-in_default-clause-order
-returns-in_default-clause-order g c = ReadsInOrder-unformed _ (g.S.Source.files c.args.surface.now) _ c.args.surface.now c.args.script.now (unformed command_for (form_of (map string_bytes c.args.words.now)) c.command_of.result c.command_of.ensures c.in_default.is)
+returns-in_default-clause-order g c = ReadsInOrder-unformed _ (g.S.Source.files c.args.surface.now) _ c.args.surface.now c.args.script.now
+    (unformed command_for (form_of (map string_bytes c.args.words.now)) c.command_of.result c.command_of.ensures c.in_default.is)
 
 pub returns-in_default-clause-within : goal.returns-in_default-clause-within
 returns-in_default-clause-within g c = ReadsWithin-unread _ _ _ _ _ refl refl
@@ -87,9 +93,12 @@ returns-in-Run-clause-outcome g c = λ bytes second told.
     let named : form_of (map string_bytes c.args.words.now) ≡ Some request = c.in-Ok.ensures.form ∙ ap (λ j. Some (request_of j)) c.in-Run.is in
     let inputs = told request named in
     let run = run_request_of c.in-Run.job in
-    EndsAs-run (map string_bytes c.args.words.now) bytes second _ _ _ request named (IsOutcomeOfRun run bytes second) (IsBegun run bytes second) (λ o h. h) (λ end h. (end, h, refl)) (λ text h. h) c.run-ran.result c.end_run.result (g.W.Sink.written c.args.out.now) (g.W.Sink.written c.run-ran.new.out) (g.W.Sink.written c.end_run.new.out) (g.W.Sink.flushed c.end_run.new.out) _
+    EndsAs-run (map string_bytes c.args.words.now) bytes second _ _ _ request named (IsOutcomeOfRun run bytes second) (IsBegun run bytes second) (λ o h. h)
+    (λ end h. (end, h, refl)) (λ text h. h) c.run-ran.result c.end_run.result (g.W.Sink.written c.args.out.now) (g.W.Sink.written c.run-ran.new.out)
+    (g.W.Sink.written c.end_run.new.out) (g.W.Sink.flushed c.end_run.new.out) _
     (c.run-ran.ensures.failed bytes (inputs.0 c.in-Run.job.surface.now refl)) c.run-ran.ensures.saved.stopped
-    (IsWork-run _ _ (g.W.Sink.written c.args.out.now) (g.W.Sink.written c.run-ran.new.out) run bytes second c.run-ran.result (c.run-ran.ensures.told bytes second (inputs.0 c.in-Run.job.surface.now refl) inputs.1)) c.end_run.ensures
+    (IsWork-run _ _ (g.W.Sink.written c.args.out.now) (g.W.Sink.written c.run-ran.new.out) run bytes second c.run-ran.result
+    (c.run-ran.ensures.told bytes second (inputs.0 c.in-Run.job.surface.now refl) inputs.1)) c.end_run.ensures
 
 pub returns-in-Run-clause-usage : goal.returns-in-Run-clause-usage
 returns-in-Run-clause-usage g c = λ is. absurd (EndsRun-no_usage c.run-ran.result c.end_run.result _ _ _ _ c.end_run.ensures is)
@@ -104,7 +113,8 @@ pub returns-in-Run-clause-order : goal.returns-in-Run-clause-order
 returns-in-Run-clause-order g c =
     let request : Request = Run (run_request_of c.in-Run.job) in
     let named : form_of (map string_bytes c.args.words.now) ≡ Some request = c.in-Ok.ensures.form ∙ ap (λ j. Some (request_of j)) c.in-Run.is in
-    ReadsInOrder-run _ request c.in-Run.job.surface.now (g.S.Source.files c.args.surface.now) _ c.args.surface.now c.run-ran.new.surface c.args.script.now c.run-ran.new.script named refl c.run-ran.ensures.order
+    ReadsInOrder-run _ request c.in-Run.job.surface.now (g.S.Source.files c.args.surface.now) _ c.args.surface.now c.run-ran.new.surface c.args.script.now c.run-ran.new.script
+    named refl c.run-ran.ensures.order
 
 pub returns-in-Run-clause-within : goal.returns-in-Run-clause-within
 returns-in-Run-clause-within g c =
@@ -117,11 +127,13 @@ returns-in-Run-clause-cause g c = EndsRun-cause _ _ _ _ _ _ c.end_run.result _ _
 
 pub returns-in-Run-clause-read_fault : goal.returns-in-Run-clause-read_fault
 returns-in-Run-clause-read_fault g c =
-    EndsRun-read_fault c.end_run.result (g.W.Sink.written c.args.out.now) (g.W.Sink.written c.run-ran.new.out) (g.W.Sink.written c.end_run.new.out) (g.W.Sink.flushed c.end_run.new.out) c.run-ran.result _ c.end_run.ensures c.run-ran.ensures.unwritten
+    EndsRun-read_fault c.end_run.result (g.W.Sink.written c.args.out.now) (g.W.Sink.written c.run-ran.new.out) (g.W.Sink.written c.end_run.new.out)
+    (g.W.Sink.flushed c.end_run.new.out) c.run-ran.result _ c.end_run.ensures c.run-ran.ensures.unwritten
 
 pub returns-in-Run-clause-flushed : goal.returns-in-Run-clause-flushed
 returns-in-Run-clause-flushed g c = λ fine kept.
-    EndsRun-flushed c.end_run.result (g.W.Sink.written c.args.out.now) (g.W.Sink.written c.run-ran.new.out) (g.W.Sink.written c.end_run.new.out) (g.W.Sink.flushed c.end_run.new.out) c.run-ran.result _ c.end_run.ensures fine kept
+    EndsRun-flushed c.end_run.result (g.W.Sink.written c.args.out.now) (g.W.Sink.written c.run-ran.new.out) (g.W.Sink.written c.end_run.new.out)
+    (g.W.Sink.flushed c.end_run.new.out) c.run-ran.result _ c.end_run.ensures fine kept
 
 pub returns-in-Run-clause-saved : goal.returns-in-Run-clause-saved
 returns-in-Run-clause-saved g c =
@@ -134,9 +146,13 @@ returns-in-Check-clause-outcome g c = λ bytes second told.
     let request : Request = Check (check_request_of c.in-Check.job) in
     let named : form_of (map string_bytes c.args.words.now) ≡ Some request = c.in-Ok.ensures.form ∙ ap (λ j. Some (request_of j)) c.in-Check.is in
     let inputs = told request named in
-    EndsAs-run (map string_bytes c.args.words.now) bytes second _ _ _ request named (IsOutcomeOfCheck bytes second) NoAnswers (λ o h. h) (λ end h. (end, h, refl)) (λ text h. h) c.check_certificate-checked.result c.end_run-in-Check.result (g.W.Sink.written c.args.out.now) (g.W.Sink.written c.check_certificate-checked.new.out) (g.W.Sink.written c.end_run-in-Check.new.out) (g.W.Sink.flushed c.end_run-in-Check.new.out) _
+    EndsAs-run (map string_bytes c.args.words.now) bytes second _ _ _ request named (IsOutcomeOfCheck bytes second) NoAnswers (λ o h. h) (λ end h. (end, h, refl))
+    (λ text h. h) c.check_certificate-checked.result c.end_run-in-Check.result (g.W.Sink.written c.args.out.now) (g.W.Sink.written c.check_certificate-checked.new.out)
+    (g.W.Sink.written c.end_run-in-Check.new.out) (g.W.Sink.flushed c.end_run-in-Check.new.out) _
     (c.check_certificate-checked.ensures.failed bytes (inputs.0 c.in-Check.job.surface.now refl)) (λ why is other. refl)
-    (IsWork-check _ _ (g.W.Sink.written c.args.out.now) (g.W.Sink.written c.check_certificate-checked.new.out) bytes second c.check_certificate-checked.result refl (c.check_certificate-checked.ensures.told bytes second (inputs.0 c.in-Check.job.surface.now refl) (inputs.1 c.in-Check.job.certificate.now refl))) c.end_run-in-Check.ensures
+    (IsWork-check _ _ (g.W.Sink.written c.args.out.now) (g.W.Sink.written c.check_certificate-checked.new.out) bytes second c.check_certificate-checked.result refl
+    (c.check_certificate-checked.ensures.told bytes second (inputs.0 c.in-Check.job.surface.now refl) (inputs.1 c.in-Check.job.certificate.now refl)))
+    c.end_run-in-Check.ensures
 
 pub returns-in-Check-clause-usage : goal.returns-in-Check-clause-usage
 returns-in-Check-clause-usage g c = λ is. absurd (EndsRun-no_usage c.check_certificate-checked.result c.end_run-in-Check.result _ _ _ _ c.end_run-in-Check.ensures is)
@@ -151,7 +167,8 @@ pub returns-in-Check-clause-order : goal.returns-in-Check-clause-order
 returns-in-Check-clause-order g c =
     let request : Request = Check (check_request_of c.in-Check.job) in
     let named : form_of (map string_bytes c.args.words.now) ≡ Some request = c.in-Ok.ensures.form ∙ ap (λ j. Some (request_of j)) c.in-Check.is in
-    ReadsInOrder-run _ request c.in-Check.job.surface.now (g.S.Source.files c.args.surface.now) _ c.args.surface.now c.check_certificate-checked.new.surface c.args.script.now c.check_certificate-checked.new.script named refl c.check_certificate-checked.ensures.order
+    ReadsInOrder-run _ request c.in-Check.job.surface.now (g.S.Source.files c.args.surface.now) _ c.args.surface.now c.check_certificate-checked.new.surface c.args.script.now
+    c.check_certificate-checked.new.script named refl c.check_certificate-checked.ensures.order
 
 pub returns-in-Check-clause-within : goal.returns-in-Check-clause-within
 returns-in-Check-clause-within g c =
@@ -164,15 +181,19 @@ returns-in-Check-clause-within g c =
     (λ name is. StopsWithin-second {U = unread} certificate_limit second c.in-Check.job.certificate.now name is c.check_certificate-checked.ensures.certificate_left)
 
 pub returns-in-Check-clause-cause : goal.returns-in-Check-clause-cause
-returns-in-Check-clause-cause g c = EndsRun-cause _ _ _ _ _ _ c.end_run-in-Check.result _ _ _ c.check_certificate-checked.result (c.check_certificate-checked.ensures.cause (over (g.V.Sink.faults c.args.saved.now) (g.V.Sink.faults c.args.saved.now)) refl) c.end_run-in-Check.ensures
+returns-in-Check-clause-cause g c = EndsRun-cause _ _ _ _ _ _ c.end_run-in-Check.result _ _ _ c.check_certificate-checked.result
+    (c.check_certificate-checked.ensures.cause (over (g.V.Sink.faults c.args.saved.now) (g.V.Sink.faults c.args.saved.now)) refl) c.end_run-in-Check.ensures
 
 pub returns-in-Check-clause-read_fault : goal.returns-in-Check-clause-read_fault
 returns-in-Check-clause-read_fault g c =
-    EndsRun-read_fault c.end_run-in-Check.result (g.W.Sink.written c.args.out.now) (g.W.Sink.written c.check_certificate-checked.new.out) (g.W.Sink.written c.end_run-in-Check.new.out) (g.W.Sink.flushed c.end_run-in-Check.new.out) c.check_certificate-checked.result _ c.end_run-in-Check.ensures c.check_certificate-checked.ensures.unwritten
+    EndsRun-read_fault c.end_run-in-Check.result (g.W.Sink.written c.args.out.now) (g.W.Sink.written c.check_certificate-checked.new.out)
+    (g.W.Sink.written c.end_run-in-Check.new.out) (g.W.Sink.flushed c.end_run-in-Check.new.out) c.check_certificate-checked.result _ c.end_run-in-Check.ensures
+    c.check_certificate-checked.ensures.unwritten
 
 pub returns-in-Check-clause-flushed : goal.returns-in-Check-clause-flushed
 returns-in-Check-clause-flushed g c = λ fine kept.
-    EndsRun-flushed c.end_run-in-Check.result (g.W.Sink.written c.args.out.now) (g.W.Sink.written c.check_certificate-checked.new.out) (g.W.Sink.written c.end_run-in-Check.new.out) (g.W.Sink.flushed c.end_run-in-Check.new.out) c.check_certificate-checked.result _ c.end_run-in-Check.ensures fine kept
+    EndsRun-flushed c.end_run-in-Check.result (g.W.Sink.written c.args.out.now) (g.W.Sink.written c.check_certificate-checked.new.out) (g.W.Sink.written c.end_run-in-Check.new.out)
+    (g.W.Sink.flushed c.end_run-in-Check.new.out) c.check_certificate-checked.result _ c.end_run-in-Check.ensures fine kept
 
 pub returns-in-Check-clause-saved : goal.returns-in-Check-clause-saved
 returns-in-Check-clause-saved g c =
@@ -186,7 +207,8 @@ show_demo-requires-clause-demo g c = subst (λ (job : Job). IsWithinLimits (requ
 pub returns-in-Demo-clause-outcome : goal.returns-in-Demo-clause-outcome
 returns-in-Demo-clause-outcome g c = λ bytes second told.
     let named : form_of (map string_bytes c.args.words.now) ≡ Some (Demonstrate c.in-Demo.demo) = c.in-Ok.ensures.form ∙ ap (λ j. Some (request_of j)) c.in-Demo.is in
-    EndsAs-demo (map string_bytes c.args.words.now) bytes second _ _ _ c.in-Demo.demo c.show_demo.result (g.W.Sink.written c.args.out.now) (g.W.Sink.written c.show_demo.new.out) (g.W.Sink.flushed c.show_demo.new.out) _ named refl c.show_demo.ensures
+    EndsAs-demo (map string_bytes c.args.words.now) bytes second _ _ _ c.in-Demo.demo c.show_demo.result (g.W.Sink.written c.args.out.now) (g.W.Sink.written c.show_demo.new.out)
+    (g.W.Sink.flushed c.show_demo.new.out) _ named refl c.show_demo.ensures
 
 pub returns-in-Demo-clause-usage : goal.returns-in-Demo-clause-usage
 returns-in-Demo-clause-usage g c = λ is. absurd (EndsDemo-no_usage c.in-Demo.demo c.show_demo.result _ _ _ _ c.show_demo.ensures is)

@@ -8,6 +8,7 @@ use Rattle.hd_prune.proofs.order.owners.Given as goal
 
 abbrev pub invariant-loop-low : goal.invariant-loop-low
 invariant-loop-low g l = record {
-  owned : (owner : Rank → Rank) → IsLinked (g.A.Around.map l.around) g.S.Side.NAME owner l.fn.links → l.owners ++ owned_by owner (ranks_of (drop l.low-index l.lows)) ≡ owned_by owner (ranks_of l.lows);
+  owned : (owner : Rank → Rank) → IsLinked (g.A.Around.map l.around) g.S.Side.NAME owner l.fn.links
+      → l.owners ++ owned_by owner (ranks_of (drop l.low-index l.lows)) ≡ owned_by owner (ranks_of l.lows);
   kept : (owner : Rank → Rank) → IsLinked (g.A.Around.map l.around) g.S.Side.NAME owner l.fn.links → IsLinked (g.A.Around.map l.around) g.S.Side.NAME owner l.links;
 }

@@ -35,7 +35,8 @@ pub take_over-requires-clause-leaving : goal.take_over-requires-clause-leaving
 take_over-requires-clause-leaving g c =
     let leaving = found g c.args.lows.now c.args.merges.now c.args.percent _ c.args.sz _ c.deref.result.now (to_z-of_z w64 c.args.sz c.ranges.sz) c.deref.ensures.value c.in_ok-leavers.ensures in (
       record { percent = c.args.percent; sz = c.args.sz },
-      leaving-in (g.A.Around.map c.args.around.now) (g.met.A.Around.whole c.args.around.now) g.S.Side.NAME c.args.lows.now c.args.merges.now c.requires.pits c.requires.merges (record { percent = c.args.percent; sz = c.args.sz }) c.deref.result.now leaving,
+      leaving-in (g.A.Around.map c.args.around.now) (g.met.A.Around.whole c.args.around.now) g.S.Side.NAME c.args.lows.now c.args.merges.now c.requires.pits c.requires.merges
+          (record { percent = c.args.percent; sz = c.args.sz }) c.deref.result.now leaving,
     )
 
 pub owners-requires-clause-pits : goal.owners-requires-clause-pits
@@ -44,14 +45,16 @@ owners-requires-clause-pits g c p h = (c.requires.pits.exactly p).0 h
 pub owners-requires-clause-linked : goal.owners-requires-clause-linked
 owners-requires-clause-linked g c = (owner_after g.S.Side.NAME (λ p. p) c.in_ok-taken.taken.steps, c.in_ok-taken.ensures.linked)
 
-is_pruned : (g : Over) (c : goal.After-drop-leavers-2 g) → IsPruned (g.A.Around.map c.args.around.now) g.S.Side.NAME c.args.percent.thousandths c.in_ok-taken.taken.steps c.in_ok-kept.kept c.in_ok-owners.owners
+is_pruned : (g : Over) (c : goal.After-drop-leavers-2 g) → IsPruned (g.A.Around.map c.args.around.now) g.S.Side.NAME c.args.percent.thousandths c.in_ok-taken.taken.steps
+    c.in_ok-kept.kept c.in_ok-owners.owners
 is_pruned g c =
     let m : Map = g.A.Around.map c.args.around.now in
     let whole = g.met.A.Around.whole c.args.around.now in
     let owner : Rank → Rank = owner_after g.S.Side.NAME (λ p. p) c.in_ok-taken.taken.steps in
     let leaving = found g c.args.lows.now c.args.merges.now c.args.percent _ c.args.sz _ c.deref.result.now (to_z-of_z w64 c.args.sz c.ranges.sz) c.deref.ensures.value c.in_ok-leavers.ensures in
     pruned-in m whole g.S.Side.NAME c.args.lows.now c.args.merges.now c.requires.pits c.requires.merges (record { percent = c.args.percent; sz = c.args.sz }) c.deref.result.now leaving c.requires.sz
-    c.in_ok-taken.taken.steps c.in_ok-taken.ensures.taken c.in_ok-kept.kept (c.in_ok-kept.ensures m whole c.requires.pits (subst (SzIs m) (sym (to_z-of_z w64 c.args.sz c.ranges.sz)) c.requires.sz) c.requires.merges)
+    c.in_ok-taken.taken.steps c.in_ok-taken.ensures.taken c.in_ok-kept.kept (c.in_ok-kept.ensures m whole c.requires.pits
+    (subst (SzIs m) (sym (to_z-of_z w64 c.args.sz c.ranges.sz)) c.requires.sz) c.requires.merges)
     c.in_ok-owners.owners (c.in_ok-owners.ensures owner c.in_ok-taken.ensures.linked)
 
 pub returns-clause-pruned : goal.returns-clause-pruned

@@ -28,7 +28,8 @@ returns-in_default g c =
     let so = c.loop-passed.invariant in
     let none : length c.loop-passed.queue.items ≡ 0 = search rules in
     let more = length-append so.passed c.loop-passed.queue.items in
-    IsFlooding-end m (LiesWithin m g.S.Side.NAME c.args.bound.level c.args.bound.strict) c.args.start (marking g.M.FloodMark.blank g.M.FloodMark.after c.args.first c.args.marks.now.items) c.loop-passed.marks.items
+    IsFlooding-end m (LiesWithin m g.S.Side.NAME c.args.bound.level c.args.bound.strict) c.args.start
+    (marking g.M.FloodMark.blank g.M.FloodMark.after c.args.first c.args.marks.now.items) c.loop-passed.marks.items
     (so.passed ++ c.loop-passed.queue.items) c.loop-passed._passed so.flooding (omega (arith, more, none, so.count)) c.args.goal
 
 pub position_of-here-requires : goal.position_of-here-requires
@@ -46,7 +47,8 @@ passed_inside : (g : Over) (c : After-position_of-here g) → InGrid (g.G.Height
 passed_inside g c = subst (λ (s : Size). InGrid s c.position_of-here.result) c.size-size.ensures c.position_of-here.ensures.in_grid
 
 one_more : (g : Over) (c : After-position_of-here g) → let m = g.G.Heights.map c.args.grid.now in let here = c.position_of-here.result in
-    IsFlooding m (LiesWithin m g.S.Side.NAME c.args.bound.level c.args.bound.strict) c.args.start (marking g.M.FloodMark.blank g.M.FloodMark.after c.args.first c.args.marks.now.items) c.loop-passed.marks.items
+    IsFlooding m (LiesWithin m g.S.Side.NAME c.args.bound.level c.args.bound.strict) c.args.start
+    (marking g.M.FloodMark.blank g.M.FloodMark.after c.args.first c.args.marks.now.items) c.loop-passed.marks.items
     ((c.loop-passed.invariant.passed ++ place_of m.size here ∷ []) ++ c.pop_front.new.self.items) (length c.loop-passed.invariant.passed)
 one_more g c =
     let m = g.G.Heights.map c.args.grid.now in
@@ -68,8 +70,10 @@ returns-then-eq g c =
     let passed = c.loop-passed.invariant.passed in
     let is : c.args.goal ≡ Some here = search rules in
     let at = goal.at.returns-then-eq g c in
-    IsFlooding-stop m (LiesWithin m g.S.Side.NAME c.args.bound.level c.args.bound.strict) c.args.start (marking g.M.FloodMark.blank g.M.FloodMark.after c.args.first c.args.marks.now.items) c.loop-passed.marks.items
-    ((passed ++ place_of m.size here ∷ []) ++ rest) (length passed) (one_more g at.After-position_of-here) here (IsAtHead-behind m.size here passed rest (passed_inside g at.After-position_of-here)) c.args.goal is
+    IsFlooding-stop m (LiesWithin m g.S.Side.NAME c.args.bound.level c.args.bound.strict) c.args.start
+    (marking g.M.FloodMark.blank g.M.FloodMark.after c.args.first c.args.marks.now.items) c.loop-passed.marks.items
+    ((passed ++ place_of m.size here ∷ []) ++ rest) (length passed) (one_more g at.After-position_of-here) here
+    (IsAtHead-behind m.size here passed rest (passed_inside g at.After-position_of-here)) c.args.goal is
 
 pub reach_round-requires-clause-whole : goal.reach_round-requires-clause-whole
 reach_round-requires-clause-whole g c = c.loop-passed.invariant.flooding.whole

@@ -10,7 +10,8 @@ invariant-lines g l = record {
   numbered : l.number ≡ g.E.SurfaceSession.asked l.session + 1;
   few : l.number ≤ l.from + 1;
   faults : g.W.Sink.faults l.out ≡ g.W.Sink.faults l.fn.out;
-  answered : AreAnswered (g.E.SurfaceSession.state l.fn.session) (lines_of l.script) (g.E.SurfaceSession.state l.session) l.number (lines_of (drop l.from l.script)) l.accepted (g.W.Sink.written l.fn.out) (g.W.Sink.written l.out);
+  answered : AreAnswered (g.E.SurfaceSession.state l.fn.session) (lines_of l.script) (g.E.SurfaceSession.state l.session) l.number (lines_of (drop l.from l.script)) l.accepted
+      (g.W.Sink.written l.fn.out) (g.W.Sink.written l.out);
 }
 
 abbrev pub decreases-lines : goal.decreases-lines

@@ -8,5 +8,8 @@ use Rattle.hd_run.proofs.certificate_reader.begin.Goals as goal
 pub returns-in_ok-feed-clause-stands : goal.returns-in_ok-feed-clause-stands
 returns-in_ok-feed-clause-stands c =
     let text = c.args.text in
-    let kind : begins_pruning (lines_of text) ≡ true = ap (λ (xs : List ℕ). begins_pruning (lines_of xs)) (sym c.as_slice.ensures) ∙ sym c.begins_pruning.ensures ∙ c.if-begins_pruning.true in
-    (subst (audit.StandsFor c.feed.new.self) c.as_slice-then-begins_pruning.ensures (c.in_ok-feed.ensures.ok [] c.new-reader.ensures.stands), subst (λ (k : Bool). IsOfKind k text) kind c.requires.kind)
+    let kind : begins_pruning (lines_of text) ≡ true = ap (λ (xs : List ℕ). begins_pruning (lines_of xs)) (sym c.as_slice.ensures) ∙ sym c.begins_pruning.ensures ∙ c.if-begins_pruning.true in (
+      subst (audit.StandsFor c.feed.new.self) c.as_slice-then-begins_pruning.ensures (c.in_ok-feed.ensures.ok [] c.new-reader.ensures.stands),
+      subst
+          (λ (k : Bool). IsOfKind k text) kind c.requires.kind,
+    )

@@ -11,7 +11,8 @@ returns-clause-told g c = λ bytes second told named. c.check_second-checked.ens
 
 pub returns-clause-order : goal.returns-clause-order
 returns-clause-order g c =
-    SecondComesLast-after (Some c.args.job.now.certificate.now) _ _ c.args.script.now _ c.args.job.now.certificate.now (file_of c.in-Ok.file) refl (HasReadStop-ok _ _ c.in-Ok.file c.in-Ok.ensures.cause) c.in-Ok.ensures.told
+    SecondComesLast-after (Some c.args.job.now.certificate.now) _ _ c.args.script.now _ c.args.job.now.certificate.now (file_of c.in-Ok.file) refl
+    (HasReadStop-ok _ _ c.in-Ok.file c.in-Ok.ensures.cause) c.in-Ok.ensures.told
 
 pub returns-clause-failed : goal.returns-clause-failed
 returns-clause-failed g c = λ bytes told e. inr (file_of c.in-Ok.file, c.in-Ok.ensures.told bytes told, c.check_second-checked.ensures.failed e)

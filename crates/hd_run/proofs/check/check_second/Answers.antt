@@ -13,7 +13,8 @@ use Rattle.hd_run.proofs.check.check_second.Goals as goal
 pub returns-in-Err-judge-clause-told : goal.returns-in-Err-judge-clause-told
 returns-in-Err-judge-clause-told g c = λ bytes second judged named.
     let read = c.in-Ok.ensures.told second named in
-    IsCheck-judge_stops bytes second (file_of c.args.file.now) judged (record { saddles = c.verdict_is_determined.ensures; prunings = c.pruning_verdict_is_determined.ensures }) read.0 ⊤ c.in-Err-judge.stop (g.W.Sink.written c.args.out.now)
+    IsCheck-judge_stops bytes second (file_of c.args.file.now) judged (record { saddles = c.verdict_is_determined.ensures; prunings = c.pruning_verdict_is_determined.ensures })
+    read.0 ⊤ c.in-Err-judge.stop (g.W.Sink.written c.args.out.now)
     (c.in-Err-judge.ensures.judged second read.1)
 
 pub returns-then-is_err-clause-told : goal.returns-then-is_err-clause-told
@@ -69,7 +70,8 @@ pub returns-in-Err-clause-open : goal.returns-in-Err-clause-open
 returns-in-Err-clause-open g c = c.requires.open
 
 pub returns-in-Err-clause-told : goal.returns-in-Err-clause-told
-returns-in-Err-clause-told g c = λ bytes second judged named. IsCheck-second_stops bytes second (file_of c.args.file.now) judged c.in-Err.stop (g.W.Sink.written c.args.out.now) (c.in-Err.ensures.told second named)
+returns-in-Err-clause-told g c = λ bytes second judged named. IsCheck-second_stops bytes second (file_of c.args.file.now) judged c.in-Err.stop (g.W.Sink.written c.args.out.now)
+    (c.in-Err.ensures.told second named)
 
 pub returns-in-Err-clause-unwritten : goal.returns-in-Err-clause-unwritten
 returns-in-Err-clause-unwritten g c = λ e. Keeps-refl (g.W.Sink.written c.args.out.now)

@@ -7,11 +7,13 @@ use Rattle.hd_run.proofs.inputs.read_open_certificate.Goals as goal
 
 pub returns-in-Err-clause-few : goal.returns-in-Err-clause-few
 returns-in-Err-clause-few g c = λ bytes told.
-    TakesFew-fed StandsFor bytes _ _ _ _ certificate_limit c.pieces.count c.in-Ok.length c.read.new.into told c.pieces.invariant.fed c.in-Ok.ensures.bytes.0 (omega (arith, c.read.auto.into, length-take c.min-room.result c.pieces.piece))
+    TakesFew-fed StandsFor bytes _ _ _ _ certificate_limit c.pieces.count c.in-Ok.length c.read.new.into told c.pieces.invariant.fed c.in-Ok.ensures.bytes.0
+    (omega (arith, c.read.auto.into, length-take c.min-room.result c.pieces.piece))
 
 pub returns-then-count-gt-CERTIFICATE_LIMIT-clause-few : goal.returns-then-count-gt-CERTIFICATE_LIMIT-clause-few
 returns-then-count-gt-CERTIFICATE_LIMIT-clause-few g c = λ bytes told.
-    TakesFew-fed StandsFor bytes _ _ _ _ certificate_limit c.pieces.count c.in-Ok.length c.read.new.into told c.pieces.invariant.fed c.in-Ok.ensures.bytes.0 (omega (arith, c.read.auto.into, length-take c.min-room.result c.pieces.piece))
+    TakesFew-fed StandsFor bytes _ _ _ _ certificate_limit c.pieces.count c.in-Ok.length c.read.new.into told c.pieces.invariant.fed c.in-Ok.ensures.bytes.0
+    (omega (arith, c.read.auto.into, length-take c.min-room.result c.pieces.piece))
 
 pub pieces-preserved : goal.pieces-preserved
 pieces-preserved g c =

@@ -19,5 +19,6 @@ from_state save before first lines stays s result old new same answers = subst (
 
 pub returns-clause-answers : goal.returns-clause-answers
 returns-clause-answers g c =
-    from_state (option_copied c.args.job.now.save) _ (first_state (file_of c.args.file)) (lines_of c.args.script.now) _ _ c.answer_and_save-answered.result (g.W.Sink.written c.args.out.now) (g.W.Sink.written c.answer_and_save-answered.new.out)
+    from_state (option_copied c.args.job.now.save) _ (first_state (file_of c.args.file)) (lines_of c.args.script.now) _ _ c.answer_and_save-answered.result
+    (g.W.Sink.written c.args.out.now) (g.W.Sink.written c.answer_and_save-answered.new.out)
     c.in-Ok.ensures.state c.answer_and_save-answered.ensures.answers

@@ -3,7 +3,8 @@ use Rattle.std.specs.Option.{option_copied}
 use Rattle.std.specs.Prelude.{⊤}
 use Rattle.hd_num.specs.Lines.{lines_of}
 use Rattle.hd_run.specs.declared.stop.Stop.TheVariants.{WriteFault}
-use Rattle.hd_run.proofs.Savings.{SavesLast-saved, SavesLast-stopped, SavesLast-unasked, SavesLast-unreached, AnswersAndSaves-lines_kept, AnswersAndSaves-lines_saved, AnswersAndSaves-lines_stop, Saves-cause, AnswersAndSaves-saving_stops}
+use Rattle.hd_run.proofs.Savings.{SavesLast-saved, SavesLast-stopped, SavesLast-unasked, SavesLast-unreached, AnswersAndSaves-lines_kept}
+use Rattle.hd_run.proofs.Savings.{AnswersAndSaves-lines_saved, AnswersAndSaves-lines_stop, Saves-cause, AnswersAndSaves-saving_stops}
 use Rattle.hd_run.proofs.Stops.{ok≢err, HasWriteStop-ok}
 use Rattle.hd_run.proofs.running.answer_and_save.Goals as goal
 
@@ -22,14 +23,16 @@ returns-in-Err-save_file-clause-answers g c =
     let first = g.E.SurfaceSession.state c.args.session.now in
     let after = g.E.SurfaceSession.state c.answer_lines.new.session in
     let accepted = c.in-Ok.accepted in
-    AnswersAndSaves-saving_stops (option_copied c.args.job.now.save) first lines _ _ old new accepted after c.in-Some.name.now (ap option_copied c.in-Some.is) ⊤ c.in-Err-save_file.stop c.in-Ok.ensures.answers c.in-Err-save_file.ensures
+    AnswersAndSaves-saving_stops (option_copied c.args.job.now.save) first lines _ _ old new accepted after c.in-Some.name.now
+    (ap option_copied c.in-Some.is) ⊤ c.in-Err-save_file.stop c.in-Ok.ensures.answers c.in-Err-save_file.ensures
 
 pub returns-in-Err-save_file-clause-cause : goal.returns-in-Err-save_file-clause-cause
 returns-in-Err-save_file-clause-cause g c = Saves-cause _ _ ⊤ c.in-Err-save_file.stop _ _ (HasWriteStop-ok _ _ c.in-Ok.accepted c.in-Ok.ensures.cause) c.in-Err-save_file.ensures
 
 pub returns-in-Err-save_file-clause-saved : goal.returns-in-Err-save_file-clause-saved
 returns-in-Err-save_file-clause-saved g c = λ surface script a b.
-    SavesLast-stopped _ _ _ surface script _ _ ⊤ c.in-Err-save_file.stop c.in-Some.name.now _ (ap option_copied c.in-Some.is) refl a b (HasWriteStop-ok _ _ c.in-Ok.accepted c.in-Ok.ensures.cause) c.in-Err-save_file.ensures
+    SavesLast-stopped _ _ _ surface script _ _ ⊤ c.in-Err-save_file.stop c.in-Some.name.now _ (ap option_copied c.in-Some.is) refl a b
+    (HasWriteStop-ok _ _ c.in-Ok.accepted c.in-Ok.ensures.cause) c.in-Err-save_file.ensures
 
 pub returns-clause-answers : goal.returns-clause-answers
 returns-clause-answers g c =
@@ -39,7 +42,8 @@ returns-clause-answers g c =
     let first = g.E.SurfaceSession.state c.args.session.now in
     let after = g.E.SurfaceSession.state c.answer_lines.new.session in
     let accepted = c.in-Ok.accepted in
-    AnswersAndSaves-lines_saved (option_copied c.args.job.now.save) first lines _ _ old new accepted after c.in-Some.name.now (ap option_copied c.in-Some.is) c.in-Ok.ensures.answers c.in-Ok-save_file.ensures
+    AnswersAndSaves-lines_saved (option_copied c.args.job.now.save) first lines _ _ old new accepted after c.in-Some.name.now
+    (ap option_copied c.in-Some.is) c.in-Ok.ensures.answers c.in-Ok-save_file.ensures
 
 pub returns-clause-cause : goal.returns-clause-cause
 returns-clause-cause g c = record {

@@ -8,7 +8,8 @@ use Rattle.hd_words.specs.Requests.{run_request_of}
 use Rattle.hd_run.specs.FaultCounts.{over}
 use Rattle.hd_run.specs.Limits.{script_limit}
 use Rattle.hd_run.specs.ReadOrder.{reading}
-use Rattle.hd_run.proofs.Runs.{inputs_of-ok, lines_to_answer-none, lines_to_answer-fits, IsRun-answered, SecondComesLast-after, StopsWithin-second, IsRun-script_stops, SecondComesLast-untouched, IsRun-surface_stops}
+use Rattle.hd_run.proofs.Runs.{inputs_of-ok, lines_to_answer-none, lines_to_answer-fits, IsRun-answered, SecondComesLast-after, StopsWithin-second}
+use Rattle.hd_run.proofs.Runs.{IsRun-script_stops, SecondComesLast-untouched, IsRun-surface_stops}
 use Rattle.hd_run.proofs.Savings.{SavesLast-unreached}
 use Rattle.hd_run.proofs.Stops.{HasRunStop-answering, IsNotOfSurface-stop, HasSinkStop-no_read_fault, HasSinkStop-no_refusal, HasReadStop-ok, HasReadStop-moved, HasRunStop-second, HasRunStop-surface}
 use Rattle.hd_run.proofs.running.run.Goals as goal
@@ -48,12 +49,14 @@ returns-in_default-clause-saved g c = c.answer_all.ensures.saved _ _ (HasReadSto
 pub returns-in-Err-read_script-clause-told : goal.returns-in-Err-read_script-clause-told
 returns-in-Err-read_script-clause-told g c = λ bytes second told named.
     let name_is : option_copied c.args.job.now.script ≡ Some c.in-Some.name.now = ap option_copied c.in-Some.is in
-    IsRun-script_stops (run_request_of c.args.job.now) bytes second _ _ c.in-Some.name.now (file_of c.in-Ok.file) c.in-Err-read_script.stop (g.W.Sink.written c.args.out.now) (c.in-Ok.ensures.told bytes told) name_is
+    IsRun-script_stops (run_request_of c.args.job.now) bytes second _ _ c.in-Some.name.now (file_of c.in-Ok.file) c.in-Err-read_script.stop (g.W.Sink.written c.args.out.now)
+    (c.in-Ok.ensures.told bytes told) name_is
     (c.in-Err-read_script.ensures.told second (named c.in-Some.name.now name_is))
 
 pub returns-in-Err-read_script-clause-order : goal.returns-in-Err-read_script-clause-order
 returns-in-Err-read_script-clause-order g c =
-    SecondComesLast-after (option_copied c.args.job.now.script) _ _ c.args.script.now _ c.in-Some.name.now (file_of c.in-Ok.file) (ap option_copied c.in-Some.is) (HasReadStop-ok _ _ c.in-Ok.file c.in-Ok.ensures.cause) c.in-Ok.ensures.told
+    SecondComesLast-after (option_copied c.args.job.now.script) _ _ c.args.script.now _ c.in-Some.name.now (file_of c.in-Ok.file) (ap option_copied c.in-Some.is)
+    (HasReadStop-ok _ _ c.in-Ok.file c.in-Ok.ensures.cause) c.in-Ok.ensures.told
 
 pub returns-in-Err-read_script-clause-failed : goal.returns-in-Err-read_script-clause-failed
 returns-in-Err-read_script-clause-failed g c = λ bytes told e.
@@ -76,7 +79,8 @@ returns-clause-told g c = λ bytes second told named.
 
 pub returns-clause-order : goal.returns-clause-order
 returns-clause-order g c =
-    SecondComesLast-after (option_copied c.args.job.now.script) _ _ c.args.script.now _ c.in-Some.name.now (file_of c.in-Ok.file) (ap option_copied c.in-Some.is) (HasReadStop-ok _ _ c.in-Ok.file c.in-Ok.ensures.cause) c.in-Ok.ensures.told
+    SecondComesLast-after (option_copied c.args.job.now.script) _ _ c.args.script.now _ c.in-Some.name.now (file_of c.in-Ok.file) (ap option_copied c.in-Some.is)
+    (HasReadStop-ok _ _ c.in-Ok.file c.in-Ok.ensures.cause) c.in-Ok.ensures.told
 
 pub returns-clause-script_left : goal.returns-clause-script_left
 returns-clause-script_left g c = λ name named.
@@ -148,7 +152,8 @@ pub returns-clause-surface_left : goal.returns-clause-surface_left
 returns-clause-surface_left g c = c.in-Ok.ensures.left
 
 pub returns-clause-cause : goal.returns-clause-cause
-returns-clause-cause g c = HasRunStop-answering _ _ _ _ c.answer_all-2.result (HasReadStop-ok _ _ c.in-Ok.file c.in-Ok.ensures.cause) (HasReadStop-ok _ _ c.in-Ok-read_script.lines c.in-Ok-read_script.ensures.cause) c.answer_all-2.ensures.cause
+returns-clause-cause g c = HasRunStop-answering _ _ _ _ c.answer_all-2.result (HasReadStop-ok _ _ c.in-Ok.file c.in-Ok.ensures.cause)
+    (HasReadStop-ok _ _ c.in-Ok-read_script.lines c.in-Ok-read_script.ensures.cause) c.answer_all-2.ensures.cause
 
 pub returns-in-Err-clause-unread : goal.returns-in-Err-clause-unread
 returns-in-Err-clause-unread g c = λ refusal is of. refl

@@ -22,7 +22,8 @@ returns-then-is_err-2 g c =
     let new = g.V.Sink.written c.write_pieces.new.saved in
     let opened = sym c.is_err.ensures.value ∙ c.if-is_err.false in
     let failed = sym c.is_err-2.ensures.value ∙ c.if-is_err-2.true in
-    let begun = emptied-cut old mid new c.in-Ok.pieces.left (emptied-open old mid (OnOk-holds c.open.result opened c.open.ensures.empty)) (OnErr-holds c.write_pieces.result failed c.write_pieces.ensures.part) in
+    let begun = emptied-cut old mid new c.in-Ok.pieces.left (emptied-open old mid (OnOk-holds c.open.result opened c.open.ensures.empty))
+    (OnErr-holds c.write_pieces.result failed c.write_pieces.ensures.part) in
     record {
       written = inr (subst (λ (text : List ℕ). AppendsStart (emptied old) new text) (ap (λ (p : PiecesState). p.left) c.in-Ok.ensures) begun);
       count = Rose-later _ _ _ (OnOk-holds c.open.result opened c.open.ensures.cause.accepted) (OnErr-holds c.write_pieces.result failed c.write_pieces.ensures.cause.failed);
@@ -37,7 +38,8 @@ returns-then-is_err-3 g c =
     let opened = sym c.is_err.ensures.value ∙ c.if-is_err.false in
     let written = sym c.is_err-2.ensures.value ∙ c.if-is_err-2.false in
     let failed = sym c.is_err-3.ensures.value ∙ c.if-is_err-3.true in
-    let all = emptied-all old mid new last c.in-Ok.pieces.left (emptied-open old mid (OnOk-holds c.open.result opened c.open.ensures.empty)) (OnOk-holds c.write_pieces.result written c.write_pieces.ensures.all) c.flush.ensures.written in
+    let all = emptied-all old mid new last c.in-Ok.pieces.left (emptied-open old mid (OnOk-holds c.open.result opened c.open.ensures.empty))
+    (OnOk-holds c.write_pieces.result written c.write_pieces.ensures.all) c.flush.ensures.written in
     record {
       written = inr (AppendsStart-whole (emptied old) last _ (subst (λ (text : List ℕ). Appends (emptied old) last text) (ap (λ (p : PiecesState). p.left) c.in-Ok.ensures) all));
       count = Rose-later _ _ _ (OnOk-holds c.write_pieces.result written c.write_pieces.ensures.cause.accepted ∙ OnOk-holds c.open.result opened c.open.ensures.cause.accepted)
@@ -53,9 +55,11 @@ returns g c =
     let opened = sym c.is_err.ensures.value ∙ c.if-is_err.false in
     let written = sym c.is_err-2.ensures.value ∙ c.if-is_err-2.false in
     let flushed = sym c.is_err-3.ensures.value ∙ c.if-is_err-3.false in
-    let all = emptied-all old mid new last c.in-Ok.pieces.left (emptied-open old mid (OnOk-holds c.open.result opened c.open.ensures.empty)) (OnOk-holds c.write_pieces.result written c.write_pieces.ensures.all) c.flush.ensures.written in
+    let all = emptied-all old mid new last c.in-Ok.pieces.left (emptied-open old mid (OnOk-holds c.open.result opened c.open.ensures.empty))
+    (OnOk-holds c.write_pieces.result written c.write_pieces.ensures.all) c.flush.ensures.written in
     record {
       written = subst (λ (text : List ℕ). Appends (emptied old) last text) (ap (λ (p : PiecesState). p.left) c.in-Ok.ensures) all;
       flushed_all = OnOk-holds c.flush.result flushed c.flush.ensures.flushed;
-      count = OnOk-holds c.flush.result flushed c.flush.ensures.cause.accepted ∙ OnOk-holds c.write_pieces.result written c.write_pieces.ensures.cause.accepted ∙ OnOk-holds c.open.result opened c.open.ensures.cause.accepted;
+      count = OnOk-holds c.flush.result flushed c.flush.ensures.cause.accepted ∙ OnOk-holds c.write_pieces.result written c.write_pieces.ensures.cause.accepted
+          ∙ OnOk-holds c.open.result opened c.open.ensures.cause.accepted;
     }

@@ -33,4 +33,5 @@ returns-in_err-write_all-clause-part g c =
 
 pub returns-clause-all : goal.returns-clause-all
 returns-clause-all g c =
-    AreWritten-all (g.V.Sink.written c.args.saved.now) (g.V.Sink.written c.pieces.saved) c.args.pieces.now.left c.pieces.pieces.left (c.advance.ensures.none c.pieces-test.false) c.pieces.invariant.written
+    AreWritten-all (g.V.Sink.written c.args.saved.now) (g.V.Sink.written c.pieces.saved) c.args.pieces.now.left c.pieces.pieces.left
+    (c.advance.ensures.none c.pieces-test.false) c.pieces.invariant.written

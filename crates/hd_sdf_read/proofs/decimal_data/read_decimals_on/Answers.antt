@@ -8,7 +8,8 @@ data-init c = HasDecimalsOn-some c.args.size c.args.data_type c.args.scaled c.ar
 pub data-preserved : goal.data-preserved
 data-preserved c =
     let given = rw c.in-Ok-Some.field-0-is at c.in-Ok-Some.ensures in
-    HasDecimalsOn-another c.args.size c.args.data_type c.args.scaled c.args.text.now c.data.scaled c.data.rest.now c.data.read c.data.invariant c.data-test.true c.push.new.self c.in-Ok-Some.datum c.in-Ok-Some.after.now given c.in_default.ensures
+    HasDecimalsOn-another c.args.size c.args.data_type c.args.scaled c.args.text.now c.data.scaled c.data.rest.now c.data.read c.data.invariant c.data-test.true c.push.new.self
+    c.in-Ok-Some.datum c.in-Ok-Some.after.now given c.in_default.ensures
 
 pub push-requires : goal.push-requires
 push-requires c = let given = rw c.in-Ok-Some.field-0-is at c.in-Ok-Some.ensures in (given []).0.small
@@ -16,7 +17,8 @@ push-requires c = let given = rw c.in-Ok-Some.field-0-is at c.in-Ok-Some.ensures
 pub returns-in-Err-push : goal.returns-in-Err-push
 returns-in-Err-push c = λ refused.
     let given = rw c.in-Ok-Some.field-0-is at c.in-Ok-Some.ensures in
-    HasDecimalsOn-wrong c.args.size c.args.data_type c.args.scaled c.args.text.now c.data.scaled c.data.rest.now c.data.read c.data.invariant c.data-test.true c.push.new.self c.in-Ok-Some.datum c.in-Ok-Some.after.now given
+    HasDecimalsOn-wrong c.args.size c.args.data_type c.args.scaled c.args.text.now c.data.scaled c.data.rest.now c.data.read c.data.invariant c.data-test.true c.push.new.self
+    c.in-Ok-Some.datum c.in-Ok-Some.after.now given
     c.in-Err-push.refusal c.in-Err-push.ensures refused
 
 pub returns : goal.returns
@@ -26,8 +28,10 @@ returns c =
     DecimalsOn-whole c.args.size c.args.data_type c.args.scaled c.args.text.now c.data.scaled c.data.rest.now c.data.read c.data.invariant (omega (arith, end, c.data-test.false))
 
 pub returns-in-Ok-None : goal.returns-in-Ok-None
-returns-in-Ok-None c = DecimalsOn-open c.args.size c.args.data_type c.args.scaled c.args.text.now c.data.scaled c.data.rest.now c.data.read c.data.invariant (omega (arith, c.data-test.true)) (rw c.in-Ok-None.field-0-is at c.in-Ok-None.ensures)
+returns-in-Ok-None c = DecimalsOn-open c.args.size c.args.data_type c.args.scaled c.args.text.now c.data.scaled c.data.rest.now c.data.read c.data.invariant
+    (omega (arith, c.data-test.true)) (rw c.in-Ok-None.field-0-is at c.in-Ok-None.ensures)
 
 pub returns-in-Err : goal.returns-in-Err
 returns-in-Err c = λ refused.
-    HasDecimalsOn-stop c.args.size c.args.data_type c.args.scaled c.args.text.now c.data.scaled c.data.rest.now c.data.read c.data.invariant c.data-test.true c.in-Err.refusal (c.in-Err.ensures refused)
+    HasDecimalsOn-stop c.args.size c.args.data_type c.args.scaled c.args.text.now c.data.scaled c.data.rest.now c.data.read c.data.invariant c.data-test.true c.in-Err.refusal
+    (c.in-Err.ensures refused)

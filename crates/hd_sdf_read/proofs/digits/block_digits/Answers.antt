@@ -30,4 +30,5 @@ returns c =
     let front = count_trailing_zeros-digits block mask long mask_is few in
     let eight = length-take-le 8 (map over_zero block) (omega (arith, long, length-map block over_zero)) in
     AreDigits-block text count c.requires fits few front c.value_of_first.result
-    (c.value_of_first.ensures (take 8 (map over_zero block)) eight (AllBelowBase-first 8 (map over_zero block) (AllBelowBase-over_zero block)) (AllBelowBase-first_digits text count c.requires fits few front) word)
+    (c.value_of_first.ensures (take 8 (map over_zero block)) eight (AllBelowBase-first 8 (map over_zero block) (AllBelowBase-over_zero block))
+    (AllBelowBase-first_digits text count c.requires fits few front) word)

@@ -8,7 +8,8 @@ use Rattle.hd_sdf_read.proofs.joining.behind.Goals as goal
 pub returns-then-is_empty-clause-same : goal.returns-then-is_empty-clause-same
 returns-then-is_empty-clause-same c = λ more.
     let none : c.args.token.now.text ≡ [] = sym c.as_slice.ensures ∙ length-nothing c.as_slice.result.now (sym c.is_empty.ensures ∙ c.if-is_empty.true) in
-    ap (λ (t : List ℕ). without_start is_gap (t ++ (c.args.text.now ++ more))) none ∙ without_start-twice c.args.text.now more ∙ ap (λ (t : List ℕ). without_start is_gap (t ++ more)) (sym c.skip_gaps.ensures)
+    ap (λ (t : List ℕ). without_start is_gap (t ++ (c.args.text.now ++ more))) none ∙ without_start-twice c.args.text.now more
+    ∙ ap (λ (t : List ℕ). without_start is_gap (t ++ more)) (sym c.skip_gaps.ensures)
     ∙ sym (ap (λ (t : List ℕ). without_start is_gap (t ++ (c.skip_gaps.result.now ++ more))) none)
 
 pub returns-then-is_empty-clause-begins : goal.returns-then-is_empty-clause-begins

@@ -7,5 +7,6 @@ returns-in_ok-joined-in-None c =
 
 pub returns-in_ok-joined-in-Some : goal.returns-in_ok-joined-in-Some
 returns-in_ok-joined-in-Some c =
-    IsWord-joined c.args.token.text c.args.text.now c.behind-text.result.now c.in-Some.end.now c.in-Some.rest.now c.in_ok-joined-in-Some.field-0.text c.args.token.open c.behind-text.ensures.same c.behind-text.ensures.begins
+    IsWord-joined c.args.token.text c.args.text.now c.behind-text.result.now c.in-Some.end.now c.in-Some.rest.now c.in_ok-joined-in-Some.field-0.text c.args.token.open
+    c.behind-text.ensures.same c.behind-text.ensures.begins
     c.in-Some.ensures c.in_ok-joined-in-Some.ensures

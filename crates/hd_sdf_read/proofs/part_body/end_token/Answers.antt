@@ -21,7 +21,8 @@ returns-then-eq-clause-text c =
     let map : Map = map_of c.args.surface in
     let word : List ℕ = c.args.token.text in
     let star : is_star word ≡ true = ap is_star (sym c.as_slice-word.ensures) ∙ sym (c.eq.ensures ∙ ap (bytes_eq c.as_slice-word.result.now) c.as_slice.ensures) ∙ c.if-eq.true in
-    let some = length-filled word (ap (λ (t : List ℕ). Rattle.std.proofs.Common.eqb (Rattle.std.proofs.Common.length t) 0) (sym c.as_slice-word.ensures) ∙ sym c.is_empty.ensures ∙ c.if-is_empty.false) in
+    let some = length-filled word (ap (λ (t : List ℕ). Rattle.std.proofs.Common.eqb (Rattle.std.proofs.Common.length t) 0) (sym c.as_slice-word.ensures) ∙ sym c.is_empty.ensures
+    ∙ c.if-is_empty.false) in
     trailed-star map.size map word [] some c.args.token.open Ends-none star ∙ ap (λ r. r >>= (λ text. Ok (record { map = map; trailer = text }))) trailer_in-none
     ∙ ap (λ (t : List ℕ). Ok (record { map = map; trailer = t })) (sym c.new-then-eq.ensures)
 
@@ -30,5 +31,6 @@ returns-clause-text c = λ _.
     let map : Map = map_of c.args.surface in
     let word : List ℕ = c.args.token.text in
     let star : is_star word ≡ false = ap is_star (sym c.as_slice-word.ensures) ∙ sym (c.eq.ensures ∙ ap (bytes_eq c.as_slice-word.result.now) c.as_slice.ensures) ∙ c.if-eq.false in
-    let some = length-filled word (ap (λ (t : List ℕ). Rattle.std.proofs.Common.eqb (Rattle.std.proofs.Common.length t) 0) (sym c.as_slice-word.ensures) ∙ sym c.is_empty.ensures ∙ c.if-is_empty.false) in
+    let some = length-filled word (ap (λ (t : List ℕ). Rattle.std.proofs.Common.eqb (Rattle.std.proofs.Common.length t) 0) (sym c.as_slice-word.ensures) ∙ sym c.is_empty.ensures
+    ∙ c.if-is_empty.false) in
     trailed-many map.size map word [] some c.args.token.open Ends-none star ∙ ap (λ n. Err (TooManyData (n + 1))) (sym (c.count_of.ensures ∙ ap cell_count c.size.ensures))

@@ -11,7 +11,8 @@ use Rattle.hd_sdf_read.proofs.WholeCuts.{length-filled, length-nothing}
 use Rattle.hd_sdf_read.proofs.part_body.end_whole.Goals as goal
 
 pub take_word-requires-clause-some : goal.take_word-requires-clause-some
-take_word-requires-clause-some c = length-filled c.as_slice-2.result.now (ap (λ (t : List ℕ). eqb (length t) 0) (c.as_slice-2.ensures ∙ sym c.as_slice.ensures) ∙ sym c.is_empty.ensures ∙ c.if-is_empty.false)
+take_word-requires-clause-some c = length-filled c.as_slice-2.result.now (ap (λ (t : List ℕ). eqb (length t) 0) (c.as_slice-2.ensures ∙ sym c.as_slice.ensures)
+    ∙ sym c.is_empty.ensures ∙ c.if-is_empty.false)
 
 pub returns-then-is_empty-clause-text : goal.returns-then-is_empty-clause-text
 returns-then-is_empty-clause-text c = λ _.
@@ -42,5 +43,6 @@ returns-clause-text c =
     let missing = part.missing in
     let all : length (cells_in c.in-Ok.cells) ≡ cell_count part.size = omega (arith, size, c.if-len-size.false, count, missing) in
     let made : map_of c.new.result ≡ map_with part.size c.in-Ok.cells.data_type (cells_in c.in-Ok.cells) = c.new.ensures in
-    taken.same [] Ends-none ∙ whole_in-done part.size c.in-Ok.cells.data_type (cells_in c.in-Ok.cells) [] all ∙ trailed-nothing part.size (map_with part.size c.in-Ok.cells.data_type (cells_in c.in-Ok.cells))
+    taken.same [] Ends-none ∙ whole_in-done part.size c.in-Ok.cells.data_type (cells_in c.in-Ok.cells) [] all
+    ∙ trailed-nothing part.size (map_with part.size c.in-Ok.cells.data_type (cells_in c.in-Ok.cells))
     ∙ ap₂ (λ (m : Map) (t : List ℕ). Ok (record { map = m; trailer = t })) (sym made) (sym c.new-2.ensures)

@@ -16,16 +16,19 @@ returns-in-Part c = λ more.
 pub returns-in-Ok : goal.returns-in-Ok
 returns-in-Ok c =
     let word : IsWord c.args.part.token.text c.args.text.now c.in-Whole.word.text c.in-Whole.rest.now = rw c.in-Whole.is at c.in_ok-token.ensures in
-    let taken : TakesDatum c.args.part.size c.args.part.data_type c.args.part.scaled c.in-Whole.word.text c.in-Ok.scaled = subst (λ (w : List ℕ). TakesDatum c.args.part.size c.args.part.data_type c.args.part.scaled w c.in-Ok.scaled) c.as_slice.ensures c.in-Ok.ensures in
+    let taken : TakesDatum c.args.part.size c.args.part.data_type c.args.part.scaled c.in-Whole.word.text c.in-Ok.scaled = subst
+    (λ (w : List ℕ). TakesDatum c.args.part.size c.args.part.data_type c.args.part.scaled w c.in-Ok.scaled) c.as_slice.ensures c.in-Ok.ensures in
     FeedsBody-decimals c.args.part.size c.args.part.data_type c.in-Ok.scaled (Decimals c.args.part) c.args.text.now c.in-Whole.rest.now c.go_on_decimals.result
     (λ more.
-    decimal_in-same c.args.part.size c.args.part.data_type (data_of c.args.part.scaled) (c.args.part.token.text ++ (c.args.text.now ++ more)) (c.in-Whole.word.text ++ (c.in-Whole.rest.now ++ more)) (word.same more)
+    decimal_in-same c.args.part.size c.args.part.data_type (data_of c.args.part.scaled) (c.args.part.token.text ++ (c.args.text.now ++ more))
+    (c.in-Whole.word.text ++ (c.in-Whole.rest.now ++ more)) (word.same more)
     ∙ taken.same (c.in-Whole.rest.now ++ more) (Ends-more c.in-Whole.rest.now more word.left word.gap))
     c.go_on_decimals.ensures
 
 pub returns : goal.returns
 returns c = λ refused more.
     let word : IsWord c.args.part.token.text c.args.text.now c.in-Whole.word.text c.in-Whole.rest.now = rw c.in-Whole.is at c.in_ok-token.ensures in
-    decimal_in-same c.args.part.size c.args.part.data_type (data_of c.args.part.scaled) (c.args.part.token.text ++ (c.args.text.now ++ more)) (c.in-Whole.word.text ++ (c.in-Whole.rest.now ++ more)) (word.same more)
+    decimal_in-same c.args.part.size c.args.part.data_type (data_of c.args.part.scaled) (c.args.part.token.text ++ (c.args.text.now ++ more))
+    (c.in-Whole.word.text ++ (c.in-Whole.rest.now ++ more)) (word.same more)
     ∙ ap (λ (w : List ℕ). decimal_in c.args.part.size c.args.part.data_type (data_of c.args.part.scaled) (w ++ (c.in-Whole.rest.now ++ more))) (sym c.as_slice.ensures)
     ∙ c.in-Err.ensures refused (c.in-Whole.rest.now ++ more) (Ends-more c.in-Whole.rest.now more word.left word.gap)

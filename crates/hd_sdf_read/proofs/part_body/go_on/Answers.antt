@@ -26,7 +26,8 @@ returns-then-len-size c = λ more.
     let token : c.in_ok-token.token.text ≡ token_of c.in-Ok.parts.1.now =
     c.in_ok-token.ensures ∙ ap (λ (t : List ℕ). t ++ c.next_token.result.0.now) c.new.ensures ∙ c.next_token.ensures.token in
     on.same more
-    ∙ whole_in-same c.args.size c.in-Ok.parts.0.data_type (cells_in c.in-Ok.parts.0) (c.in-Ok.parts.1.now ++ more) (token_of c.in-Ok.parts.1.now ++ more) (without_start-open c.in-Ok.parts.1.now more left)
+    ∙ whole_in-same c.args.size c.in-Ok.parts.0.data_type (cells_in c.in-Ok.parts.0) (c.in-Ok.parts.1.now ++ more) (token_of c.in-Ok.parts.1.now ++ more)
+    (without_start-open c.in-Ok.parts.1.now more left)
     ∙ ap (λ (t : List ℕ). whole_in c.args.size c.in-Ok.parts.0.data_type (cells_in c.in-Ok.parts.0) (t ++ more)) (sym token)
 
 pub returns : goal.returns

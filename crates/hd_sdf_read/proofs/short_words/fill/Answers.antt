@@ -15,7 +15,8 @@ cells-preserved c =
       overs = length-set c.cells.overs c.cells.place c.in-Some.over ∙ overs;
       marks = length-set c.cells.marks c.cells.place c.in-Some.mark ∙ marks;
       unmasked = masks-filled c.cells.marks c.cells.place c.in-Some.mark (omega (arith, marks, inside, c.requires.marks)) before.unmasked c.in-Some.ensures.unmasked;
-      reads = AreData-filled (signed_number true c.args.below) (pos c.args.greatest) (height_over c.args.below) c.args.text.now c.cells.rest.now c.in-Some.after.now c.cells.overs c.cells.marks c.cells.place c.in-Some.over c.in-Some.mark
+      reads = AreData-filled (signed_number true c.args.below) (pos c.args.greatest)
+          (height_over c.args.below) c.args.text.now c.cells.rest.now c.in-Some.after.now c.cells.overs c.cells.marks c.cells.place c.in-Some.over c.in-Some.mark
           (omega (arith, overs, inside, c.requires.overs)) (omega (arith, marks, inside, c.requires.marks)) before.reads c.in-Some.ensures.datum;
       some = c.in-Some.ensures.datum.left;
       begins = c.in-Some.ensures.datum.begins;

@@ -14,7 +14,8 @@ returns-in-Some-clause-datum c =
     let least = signed_number true c.args.below in
     let text : List ℕ = c.args.text.now in
     let takes = rw (take_rest text 1) at c.in-Some.ensures.cell in
-    IsDatum-behind least (pos c.args.greatest) text (drop 1 text) c.in-Some.rest.now (Height (height_over c.args.below c.in-Some.over)) (without_start-behind_gap text c.requires.some c.requires.begins)
+    IsDatum-behind least (pos c.args.greatest) text (drop 1 text) c.in-Some.rest.now (Height (height_over c.args.below c.in-Some.over))
+    (without_start-behind_gap text c.requires.some c.requires.begins)
     (IsDatum-height least (pos c.args.greatest) (drop 1 text) c.in-Some.rest.now (Height (height_over c.args.below c.in-Some.over)) takes c.in-Some.ensures.left)
 
 pub returns-clause-datum : goal.returns-clause-datum

@@ -14,7 +14,8 @@ extend_packed-requires-clause-of_type c =
     let overs : List ℕ = take c.fill-count.result.0 c.fill-count.new.overs in
     let marks : List Mark = take c.fill-count.result.0 c.fill-count.new.marks in
     subst (λ (z : ℤ). AreCellsOf t (kept_cells (λ (over : ℕ). z +ℤ pos over) overs marks)) c.requires.least
-    (AreData-fit (signed_number true c.args.below) (pos c.args.greatest) t c.requires.least c.requires.greatest c.args.text.now c.fill-count.result.1.now (kept_cells (height_over c.args.below) overs marks) c.fill-count.ensures.cells)
+    (AreData-fit (signed_number true c.args.below) (pos c.args.greatest) t c.requires.least c.requires.greatest c.args.text.now c.fill-count.result.1.now
+    (kept_cells (height_over c.args.below) overs marks) c.fill-count.ensures.cells)
 
 pub returns : goal.returns
 returns c =

@@ -16,4 +16,5 @@ returns-in-Some-leading_over-clause-datum c =
 
 pub returns-clause-datum : goal.returns-clause-datum
 returns-clause-datum c =
-    IsDatum-height (signed_number true c.args.below) (pos c.args.greatest) c.args.word.now c.in_ok-over.rest.now (Height (height_over c.args.below c.in_ok-over.over)) c.in_ok-over.ensures.cell c.in_ok-over.ensures.left
+    IsDatum-height (signed_number true c.args.below) (pos c.args.greatest) c.args.word.now c.in_ok-over.rest.now
+    (Height (height_over c.args.below c.in_ok-over.over)) c.in_ok-over.ensures.cell c.in_ok-over.ensures.left

@@ -8,7 +8,8 @@ use Rattle.hd_sdf_read.proofs.whole_data.cut_token.Goals as goal
 
 pub returns-then-eq : goal.returns-then-eq
 returns-then-eq c =
-    datum_at-cut_star c.args.least c.args.greatest c.args.read c.args.text.now c.next_token.result.1.now c.next_token.ensures.rest (length-filled c.next_token.result.1.now (sym c.is_empty.ensures ∙ c.if-is_empty.false))
+    datum_at-cut_star c.args.least c.args.greatest c.args.read c.args.text.now c.next_token.result.1.now c.next_token.ensures.rest
+    (length-filled c.next_token.result.1.now (sym c.is_empty.ensures ∙ c.if-is_empty.false))
     c.next_token.result.0.now c.next_token.ensures.token (sym (c.eq.ensures ∙ ap (bytes_eq c.next_token.result.0.now) c.as_slice.ensures) ∙ c.if-eq.true)
 
 pub returns-in-Ok : goal.returns-in-Ok

@@ -16,9 +16,11 @@ push-requires c =
     let low = to_z-of_z w64 c.least_of-least.result (record { sfits = c.least_of-least.type_inv }) ∙ c.least_of-least.ensures ∙ ap least_height c.data_type.ensures in
     let high = to_z-of_z w64 c.greatest_of-greatest.result (record { sfits = c.greatest_of-greatest.type_inv }) ∙ c.greatest_of-greatest.ensures ∙ ap greatest_height c.data_type-2.ensures in
     let reads = c.in_ok-rest.ensures in
-    let has = HasOn-short c.args.size c.args.cells c.args.text.now c.data.cells c.data.rest.now (length (cells_in c.data.cells)) c.read_short.new.cells c.in_ok-rest.rest.now c.len-read.result c.data.invariant.0 reads c.len-read.ensures in
+    let has = HasOn-short c.args.size c.args.cells c.args.text.now c.data.cells c.data.rest.now
+    (length (cells_in c.data.cells)) c.read_short.new.cells c.in_ok-rest.rest.now c.len-read.result c.data.invariant.0 reads c.len-read.ensures in
     subst (λ (t : DataType). IsCellOf t c.in-Ok-Some.cell) (sym has.data_type)
-    (datum_at-fits c.args.cells.data_type (to_z w64 (of_z w64 c.least_of-least.result)) (to_z w64 (of_z w64 c.greatest_of-greatest.result)) c.len-read.result (c.in_ok-rest.rest.now ++ []) c.in-Ok-Some.cell low high (given []).0)
+    (datum_at-fits c.args.cells.data_type (to_z w64 (of_z w64 c.least_of-least.result)) (to_z w64 (of_z w64 c.greatest_of-greatest.result)) c.len-read.result
+    (c.in_ok-rest.rest.now ++ []) c.in-Ok-Some.cell low high (given []).0)
 
 pub data-preserved : goal.data-preserved
 data-preserved c =
@@ -26,7 +28,8 @@ data-preserved c =
     let low = to_z-of_z w64 c.least_of-least.result (record { sfits = c.least_of-least.type_inv }) ∙ c.least_of-least.ensures ∙ ap least_height c.data_type.ensures in
     let high = to_z-of_z w64 c.greatest_of-greatest.result (record { sfits = c.greatest_of-greatest.type_inv }) ∙ c.greatest_of-greatest.ensures ∙ ap greatest_height c.data_type-2.ensures in
     let reads = c.in_ok-rest.ensures in
-    let has = HasOn-short c.args.size c.args.cells c.args.text.now c.data.cells c.data.rest.now (length (cells_in c.data.cells)) c.read_short.new.cells c.in_ok-rest.rest.now c.len-read.result c.data.invariant.0 reads c.len-read.ensures in
+    let has = HasOn-short c.args.size c.args.cells c.args.text.now c.data.cells c.data.rest.now
+    (length (cells_in c.data.cells)) c.read_short.new.cells c.in_ok-rest.rest.now c.len-read.result c.data.invariant.0 reads c.len-read.ensures in
     let few = reads.few in
     let inside : c.len-read.result < cell_count c.args.size = omega (arith, few, c.len-read.ensures, c.if-read-count.false) in
     HasOn-again c.args.size c.args.cells c.args.text.now c.push.new.self c.in-Ok-Some.after.now (c.len-read.result + 1)
@@ -39,7 +42,8 @@ returns-in-Err c = λ _.
     let low = to_z-of_z w64 c.least_of-least.result (record { sfits = c.least_of-least.type_inv }) ∙ c.least_of-least.ensures ∙ ap least_height c.data_type.ensures in
     let high = to_z-of_z w64 c.greatest_of-greatest.result (record { sfits = c.greatest_of-greatest.type_inv }) ∙ c.greatest_of-greatest.ensures ∙ ap greatest_height c.data_type-2.ensures in
     let reads = c.in_ok-rest.ensures in
-    let has = HasOn-short c.args.size c.args.cells c.args.text.now c.data.cells c.data.rest.now (length (cells_in c.data.cells)) c.read_short.new.cells c.in_ok-rest.rest.now c.len-read.result c.data.invariant.0 reads c.len-read.ensures in
+    let has = HasOn-short c.args.size c.args.cells c.args.text.now c.data.cells c.data.rest.now
+    (length (cells_in c.data.cells)) c.read_short.new.cells c.in_ok-rest.rest.now c.len-read.result c.data.invariant.0 reads c.len-read.ensures in
     let few = reads.few in
     let inside : c.len-read.result < cell_count c.args.size = omega (arith, few, c.len-read.ensures, c.if-read-count.false) in
     HasOn-refused c.args.size c.args.cells c.args.text.now c.read_short.new.cells c.in_ok-rest.rest.now c.len-read.result has inside

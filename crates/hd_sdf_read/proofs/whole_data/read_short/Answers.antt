@@ -16,7 +16,8 @@ returns-then-read-eq0 c =
     let low = low_is ∙ c.least_of.ensures ∙ ap least_height (c.data_type.ensures ∙ sym before.reads.data_type) in
     let high = high_is ∙ c.greatest_of.ensures ∙ ap greatest_height (c.data_type-2.ensures ∙ sym before.reads.data_type) in
     let batch = c.in_ok-read.ensures in
-    let on = ReadsShort-batch c.args.size c.args.cells.now c.args.text.now c.short.cells c.short.rest.now c.read_batch.new.cells c.in_ok-read.after.now (signed_number true c.over_least-below.result) (pos c.over_least-greatest.result) _ c.in_ok-read.read
+    let on = ReadsShort-batch c.args.size c.args.cells.now c.args.text.now c.short.cells c.short.rest.now c.read_batch.new.cells c.in_ok-read.after.now
+    (signed_number true c.over_least-below.result) (pos c.over_least-greatest.result) _ c.in_ok-read.read
     before.reads low high batch (omega arith) in
     on.0
 
@@ -30,7 +31,9 @@ short-preserved c =
     let low = low_is ∙ c.least_of.ensures ∙ ap least_height (c.data_type.ensures ∙ sym before.reads.data_type) in
     let high = high_is ∙ c.greatest_of.ensures ∙ ap greatest_height (c.data_type-2.ensures ∙ sym before.reads.data_type) in
     let batch = c.in_ok-read.ensures in
-    let on = ReadsShort-batch c.args.size c.args.cells.now c.args.text.now c.short.cells c.short.rest.now c.read_batch.new.cells c.in_ok-read.after.now (signed_number true c.over_least-below.result) (pos c.over_least-greatest.result) _ c.in_ok-read.read
+    let on = ReadsShort-batch c.args.size c.args.cells.now c.args.text.now c.short.cells c.short.rest.now c.read_batch.new.cells c.in_ok-read.after.now
+    (signed_number true c.over_least-below.result) (pos c.over_least-greatest.result) _ c.in_ok-read.read
     before.reads low high batch (omega arith) in
-    let begin = AreData-begin (signed_number true c.over_least-below.result) (pos c.over_least-greatest.result) c.short.rest.now c.in_ok-read.after.now batch.more batch.reads before.some before.begins in
+    let begin = AreData-begin (signed_number true c.over_least-below.result) (pos c.over_least-greatest.result) c.short.rest.now c.in_ok-read.after.now batch.more batch.reads
+    before.some before.begins in
     record { reads = on.0; some = begin.0; begins = begin.1 }

@@ -16,7 +16,8 @@ at_is size s index at same column place = record {
 }
 
 -- the position before it
-at_before : (size s : Size) (index next : ℕ) (before at : Pos) → s ≡ size → next ≡ index + 1 → IsAt size next at → (at.x < s.points → before.x < s.points) → place_of s before + 1 ≡ place_of s at → IsAt size index before
+at_before : (size s : Size) (index next : ℕ) (before at : Pos) → s ≡ size → next ≡ index + 1 → IsAt size next at → (at.x < s.points → before.x < s.points)
+    → place_of s before + 1 ≡ place_of s at → IsAt size index before
 at_before size s index next before at same one so column place =
     let here : place_of s at ≡ next = subst (λ (z : Size). place_of z at ≡ next) (sym same) so.place in
     at_is size s index before same (column (subst (λ (z : Size). at.x < z.points) (sym same) so.column)) (omega (arith, place, here, one))
@@ -26,7 +27,8 @@ points-init g c =
     let m = g.G.Heights.map c.args.grid.now in
     let after = c.position_after-at.ensures in
     record {
-      at = at_is m.size c.size-size.result c.args.to c.position_after-at.result c.size-size.ensures after.column (after.place ∙ ap (λ k. k + 1) c.position_of.ensures.place ∙ omega (arith, c.requires.some));
+      at = at_is m.size c.size-size.result c.args.to c.position_after-at.result c.size-size.ensures after.column (after.place ∙ ap (λ k. k + 1) c.position_of.ensures.place
+          ∙ omega (arith, c.requires.some));
       text = drop_all (length c.args.text.now) c.args.text.now (omega arith) ∙ sym (data_text-empty m c.args.to);
       least = omega (arith, c.requires.some);
       most = omega arith;

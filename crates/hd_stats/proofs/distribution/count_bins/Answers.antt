@@ -9,7 +9,8 @@ use Rattle.hd_stats.proofs.distribution.count_bins.Goals as goal
 pub overflow_add-index_mut : goal.overflow_add-index_mut
 overflow_add-index_mut c =
     let f : ℤ → ℕ = bin_of (least c.args.values.now) (greatest c.args.values.now) c.args.bins in
-    let few = count_by-few f c.args.values.now c.values.value-index c.values.counts.items c.args.bins c.bin_of-bin.result c.index_mut.result.now c.values.invariant.whole c.bin_of-bin.ensures.inside c.index_mut.ensures.value c.values.invariant.each in
+    let few = count_by-few f c.args.values.now c.values.value-index c.values.counts.items c.args.bins c.bin_of-bin.result c.index_mut.result.now c.values.invariant.whole
+    c.bin_of-bin.ensures.inside c.index_mut.ensures.value c.values.invariant.each in
     search (rules, arith, few)
 
 pub values-preserved : goal.values-preserved
@@ -23,7 +24,8 @@ values-preserved c =
     let bin : c.bin_of-bin.result ≡ f x = read ∙ ap₂ (λ l g. bin_of l g c.args.bins x) c.least-least.ensures c.greatest-greatest.ensures in
     record {
       whole = length-set c.values.counts.items c.bin_of-bin.result _ ∙ c.values.invariant.whole;
-      each = count_by-next f c.args.values.now c.values.value-index (pos 0) c.values.counts.items c.args.bins c.bin_of-bin.result c.index_mut.result.now c.values-test.true c.values.invariant.whole c.bin_of-bin.ensures.inside bin c.index_mut.ensures.value c.values.invariant.each;
+      each = count_by-next f c.args.values.now c.values.value-index (pos 0) c.values.counts.items c.args.bins c.bin_of-bin.result c.index_mut.result.now c.values-test.true
+          c.values.invariant.whole c.bin_of-bin.ensures.inside bin c.index_mut.ensures.value c.values.invariant.each;
     }
 
 pub returns : goal.returns

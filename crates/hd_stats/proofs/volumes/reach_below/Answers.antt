@@ -23,7 +23,8 @@ one-is g c = slice_get-get_or c.args.kept.now c.args.number (record { pit = reco
 pub returns-in_default : goal.returns-in_default
 returns-in_default g c =
     let at = (goal.at.returns-in_default g c).Start in
-    AreReached-same (g.G.Heights.map c.args.grid.now) g.S.Side.NAME (g.met.G.Heights.whole c.args.grid.now) c.args.kept.now (nearest g at) c.args.number c.args.reached.now.items c.requires.reached (one g at) (one-is g at) c.in_default.is
+    AreReached-same (g.G.Heights.map c.args.grid.now) g.S.Side.NAME (g.met.G.Heights.whole c.args.grid.now) c.args.kept.now
+    (nearest g at) c.args.number c.args.reached.now.items c.requires.reached (one g at) (one-is g at) c.in_default.is
 
 pub position_of-from-requires : goal.position_of-from-requires
 position_of-from-requires g c =
@@ -43,21 +44,26 @@ flood-requires-clause-start g c =
     let m = g.G.Heights.map c.args.grid.now in
     let at = (goal.at.flood-requires-clause-start g c).Start in
     (rank-pit_low m g.S.Side.NAME c.args.kept.now (nearest g at) c.args.number (one g at) c.in-Some.saddle c.position_of-from.result (one-is g at) c.in-Some.is
-    (subst (λ (s : Size). InGrid s c.position_of-from.result) c.size.ensures c.position_of-from.ensures.in_grid) (ap (λ (s : Size). place_of s c.position_of-from.result) (sym c.size.ensures) ∙ c.position_of-from.ensures.place)).1
+    (subst (λ (s : Size). InGrid s c.position_of-from.result) c.size.ensures c.position_of-from.ensures.in_grid)
+    (ap (λ (s : Size). place_of s c.position_of-from.result) (sym c.size.ensures) ∙ c.position_of-from.ensures.place)).1
 
 pub flood-requires-clause-blank : goal.flood-requires-clause-blank
 flood-requires-clause-blank g c =
     let m = g.G.Heights.map c.args.grid.now in
     let at = (goal.at.flood-requires-clause-blank g c).Start in
     let low = rank-pit_low m g.S.Side.NAME c.args.kept.now (nearest g at) c.args.number (one g at) c.in-Some.saddle c.position_of-from.result (one-is g at) c.in-Some.is
-    (subst (λ (s : Size). InGrid s c.position_of-from.result) c.size.ensures c.position_of-from.ensures.in_grid) (ap (λ (s : Size). place_of s c.position_of-from.result) (sym c.size.ensures) ∙ c.position_of-from.ensures.place) in
-    AreBlank-noted m g.S.Side.NAME (g.met.G.Heights.whole c.args.grid.now) c.args.kept.now (nearest g at) c.args.number c.args.reached.now.items c.requires.reached (one g at) (one-is g at) c.in-Some.saddle c.in-Some.is c.position_of-from.result low.0 low.1
+    (subst (λ (s : Size). InGrid s c.position_of-from.result) c.size.ensures c.position_of-from.ensures.in_grid)
+    (ap (λ (s : Size). place_of s c.position_of-from.result) (sym c.size.ensures) ∙ c.position_of-from.ensures.place) in
+    AreBlank-noted m g.S.Side.NAME (g.met.G.Heights.whole c.args.grid.now) c.args.kept.now (nearest g at) c.args.number c.args.reached.now.items c.requires.reached (one g at)
+    (one-is g at) c.in-Some.saddle c.in-Some.is c.position_of-from.result low.0 low.1
 
 pub returns : goal.returns
 returns g c =
     let m = g.G.Heights.map c.args.grid.now in
     let at = (goal.at.returns g c).Start in
     let low = rank-pit_low m g.S.Side.NAME c.args.kept.now (nearest g at) c.args.number (one g at) c.in-Some.saddle c.position_of-from.result (one-is g at) c.in-Some.is
-    (subst (λ (s : Size). InGrid s c.position_of-from.result) c.size.ensures c.position_of-from.ensures.in_grid) (ap (λ (s : Size). place_of s c.position_of-from.result) (sym c.size.ensures) ∙ c.position_of-from.ensures.place) in
-    AreReached-more m g.S.Side.NAME (g.met.G.Heights.whole c.args.grid.now) c.args.kept.now (nearest g at) c.args.number c.args.reached.now.items c.requires.reached (one g at) (one-is g at) c.in-Some.saddle c.in-Some.is c.position_of-from.result low.0 low.1
+    (subst (λ (s : Size). InGrid s c.position_of-from.result) c.size.ensures c.position_of-from.ensures.in_grid)
+    (ap (λ (s : Size). place_of s c.position_of-from.result) (sym c.size.ensures) ∙ c.position_of-from.ensures.place) in
+    AreReached-more m g.S.Side.NAME (g.met.G.Heights.whole c.args.grid.now) c.args.kept.now (nearest g at) c.args.number c.args.reached.now.items c.requires.reached (one g at)
+    (one-is g at) c.in-Some.saddle c.in-Some.is c.position_of-from.result low.0 low.1
     c.flood.new.marks.items c.in_ok-flood.ensures

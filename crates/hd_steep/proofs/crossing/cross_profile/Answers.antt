@@ -21,12 +21,14 @@ module _ (g : Over) (c : After-descents-descents g) where
   descends : Descends (g.G.Heights.map c.args.grid.now) g.S.Side.NAME (λ u. u.y ≡ c.args.y) [] c.descents-descents.result.now
   descends = rw c.descents-descents.ensures c.requires.descended.descends
 
-  each : (n : ℕ) (none : Descent) → n < length c.descents-descents.result.now → IsDescentFrom (g.G.Heights.map c.args.grid.now) g.S.Side.NAME (λ u. u.y ≡ c.args.y) (get_or c.descents-descents.result.now n none)
+  each : (n : ℕ) (none : Descent) → n < length c.descents-descents.result.now → IsDescentFrom (g.G.Heights.map c.args.grid.now) g.S.Side.NAME (λ u. u.y ≡ c.args.y)
+      (get_or c.descents-descents.result.now n none)
   each n none inside = from_none (g.G.Heights.map c.args.grid.now) g.S.Side.NAME (λ u. u.y ≡ c.args.y) c.descents-descents.result.now (get_or c.descents-descents.result.now n none) descends
       (Contains-get_or c.descents-descents.result.now n none inside)
 
 pub crossing_along-crossing-requires-clause-descent : goal.crossing_along-crossing-requires-clause-descent
-crossing_along-crossing-requires-clause-descent g c = each g (goal.at.crossing_along-crossing-requires-clause-descent g c).After-descents-descents c.loop-descent.descent-index _ c.loop-descent-test.true
+crossing_along-crossing-requires-clause-descent g c = each g (goal.at.crossing_along-crossing-requires-clause-descent g c).After-descents-descents c.loop-descent.descent-index _
+    c.loop-descent-test.true
 
 pub loop-descent-init : goal.loop-descent-init
 loop-descent-init g c =
@@ -74,7 +76,8 @@ returns-clause-crosses g c =
     let last = untraced regions.pits (take c.loop-descent.count c.loop-descent.room) in
     let traces = subst (λ (ds : List Descent). TracesAcross m side ds first last) (take_all c.loop-descent.descent-index list c.loop-descent-test.false) c.loop-descent.invariant.traces in
     record {
-      gathers = gathers_traced m side (g.met.G.Heights.whole c.args.grid.now) (roots_of regions) c.requires.regions.roots last (λ u. u.y ≡ c.args.y) list (descends g (goal.at.returns-clause-crosses g c).After-descents-descents)
+      gathers = gathers_traced m side (g.met.G.Heights.whole c.args.grid.now) (roots_of regions) c.requires.regions.roots last (λ u. u.y ≡ c.args.y) list
+          (descends g (goal.at.returns-clause-crosses g c).After-descents-descents)
           (traces_from_none m side list first last refl traces) traces.across;
       pits = c.loop-descent.invariant.pits;
     }

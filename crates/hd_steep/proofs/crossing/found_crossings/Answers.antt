@@ -47,7 +47,8 @@ profiles-preserved g c =
               | inr past ↦ inr (omega (arith, less, past))
             ])
             (rw (map-append (pass_of side pits) before new)
-            (gathers_append m side (λ u. u.y < y) (λ u. u.y ≡ y) (passes_of side pits before) (passes_of side pits new) c.profiles.invariant.crossings.gathers c.cross_profile-count.ensures.crosses.gathers));
+            (gathers_append m side (λ u. u.y < y) (λ u. u.y ≡ y) (passes_of side pits before)
+            (passes_of side pits new) c.profiles.invariant.crossings.gathers c.cross_profile-count.ensures.crosses.gathers));
         pits = All-append (HasPits pits) before new c.profiles.invariant.crossings.pits c.cross_profile-count.ensures.crosses.pits;
       });
       sized = ap length kept ∙ (let had = c.profiles.invariant.sized in omega (arith, long, had));

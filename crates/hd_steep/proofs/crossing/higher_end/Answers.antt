@@ -30,7 +30,8 @@ module _ (g : Over) (c : After-index g) where
       let place : c.args.descent.from - c.args.level.now.first + 1 ≡ c.requires.descent.at.x + 1 = (let is = from in omega (arith, is)) in
       let inside = c.requires.descent.present.in_grid.column in
       let long = c.requires.level.framed.whole in
-      c.index.ensures ∙ get_or_default keys (c.args.descent.from - c.args.level.now.first + 1) c.index.result.now g.L.Lane.code.missing (omega (arith, place, inside, long)) ∙ ap (number_in g.L.Lane.code keys) place
+      c.index.ensures ∙ get_or_default keys (c.args.descent.from - c.args.level.now.first + 1) c.index.result.now g.L.Lane.code.missing (omega (arith, place, inside, long))
+      ∙ ap (number_in g.L.Lane.code keys) place
 
 pub height_of-requires : goal.height_of-requires
 height_of-requires g c = subst (IsKey g.L.Lane.code) (sym (read g (goal.at.height_of-requires g c).After-index)) (c.requires.level.keys (c.requires.descent.at.x + 1))
@@ -57,4 +58,5 @@ returns g c =
     let fits : SFits w64 h = search rules in
     let shown = ap (λ k. on_side side (code.shown k)) (sym (read g before)) ∙ sym c.height_of.ensures ∙ c.in-Some.is in
     let is = rank_read m side (g.met.G.Heights.whole c.args._grid.now) code (c.args._y + 1) c.args.level.now c.requires.level d.at d.present.in_grid (ap (λ i. i + 1) d.chosen) h d.present shown in
-    rw (to_z-of_z w64 h fits) (ap (λ i. record { height = h; index = i }) (from g before) ∙ sym is ∙ ap (rank m) (sym (ap (position_at m.size) d.leads.from_is ∙ rank_position m (rank m d.at) d.at d.present refl)))
+    rw (to_z-of_z w64 h fits) (ap (λ i. record { height = h; index = i }) (from g before) ∙ sym is
+    ∙ ap (rank m) (sym (ap (position_at m.size) d.leads.from_is ∙ rank_position m (rank m d.at) d.at d.present refl)))

@@ -5,7 +5,8 @@ use Rattle.hd_steep.proofs.leading.lead_to.Goals as goal
 
 pub walk-smaller : goal.walk-smaller
 walk-smaller g c =
-    way_falls (g.G.Heights.map c.args._grid.now) g.S.Side.NAME c.args._pits.now c.walk.links c.walk.invariant.links c.walk.here (g.met.G.Heights.whole c.args._grid.now) (omega (arith, c.walk-test.true, c.requires.count))
+    way_falls (g.G.Heights.map c.args._grid.now) g.S.Side.NAME c.args._pits.now c.walk.links c.walk.invariant.links c.walk.here (g.met.G.Heights.whole c.args._grid.now)
+    (omega (arith, c.walk-test.true, c.requires.count))
 
 pub walk-preserved : goal.walk-preserved
 walk-preserved g c =

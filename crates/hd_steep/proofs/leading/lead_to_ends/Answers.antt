@@ -5,11 +5,13 @@ use Rattle.hd_steep.proofs.leading.lead_to_ends.Goals as goal
 
 pub end_from-end-requires-clause-links : goal.end_from-end-requires-clause-links
 end_from-end-requires-clause-links g c =
-    led_on (g.G.Heights.map c.args.grid.now) g.S.Side.NAME c.args.pits.now c.loop-index.links c.loop-index.invariant.links (c.loop-index.index - 1) (omega (arith, c.loop-index-test.true, c.requires.count))
+    led_on (g.G.Heights.map c.args.grid.now) g.S.Side.NAME c.args.pits.now c.loop-index.links c.loop-index.invariant.links (c.loop-index.index - 1)
+    (omega (arith, c.loop-index-test.true, c.requires.count))
 
 pub lead_to-requires-clause-links : goal.lead_to-requires-clause-links
 lead_to-requires-clause-links g c =
-    led_on (g.G.Heights.map c.args.grid.now) g.S.Side.NAME c.args.pits.now c.loop-index.links c.loop-index.invariant.links (c.loop-index.index - 1) (omega (arith, c.loop-index-test.true, c.requires.count))
+    led_on (g.G.Heights.map c.args.grid.now) g.S.Side.NAME c.args.pits.now c.loop-index.links c.loop-index.invariant.links (c.loop-index.index - 1)
+    (omega (arith, c.loop-index-test.true, c.requires.count))
 
 pub loop-index-preserved : goal.loop-index-preserved
 loop-index-preserved g c =

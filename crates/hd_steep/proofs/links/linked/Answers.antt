@@ -35,7 +35,8 @@ profiles-preserved g c =
     record {
       before = rows-next g.L.Lane.code side m c.profiles.y c.advance.new.self c.if-not-advance.ensures.rows;
       row_sized = ap length written ∙ long;
-      links = subst (λ (r : List ℕ). AreFirstLinksFrom m side 0 r) (sym added) (links_append m side 0 (c.profiles.y * m.size.points) old row (omega (arith, count)) so_far.links c.link_profile.ensures);
+      links = subst (λ (r : List ℕ). AreFirstLinksFrom m side 0 r) (sym added) (links_append m side 0 (c.profiles.y * m.size.points) old row
+          (omega (arith, count)) so_far.links c.link_profile.ensures);
       count = ap length added ∙ (omega (arith, total, count, long));
     }
 

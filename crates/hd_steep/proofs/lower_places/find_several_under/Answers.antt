@@ -17,4 +17,5 @@ loop-x-preserved c =
       c.as_slice-west.ensures.value,
       c.as_slice-north_west.ensures.value,
     ) at c.marked.ensures in
-    marks_more (λ k b. OnFalse b (IsOneAtMost (marks_of c.args.adjacency (lower_round c.args.lower.now k)))) c.loop-x.several c.loop-x.x c.are_several.result (omega arith) c.loop-x.invariant (rw told at c.are_several.ensures)
+    marks_more (λ k b. OnFalse b (IsOneAtMost (marks_of c.args.adjacency (lower_round c.args.lower.now k)))) c.loop-x.several c.loop-x.x c.are_several.result
+    (omega arith) c.loop-x.invariant (rw told at c.are_several.ensures)

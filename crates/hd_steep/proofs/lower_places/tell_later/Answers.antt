@@ -8,7 +8,8 @@ is_below_earlier-requires-clause-key g c =
     (wide_at g.L.Lane.code (length c.args.lower.now) c.args.shift c.args.keys.now c.requires.keys c.requires.shift c.loop-x.x c.index-others-x.result c.loop-x-test.true c.index-others-x.is).1
 
 pub is_below_earlier-requires-clause-earlier : goal.is_below_earlier-requires-clause-earlier
-is_below_earlier-requires-clause-earlier g c = (wide_at g.L.Lane.code (length c.args.lower.now) 1 c.args.level.now c.requires.level (omega arith) c.loop-x.x c.index-owns-x.result c.loop-x-test.true c.index-owns-x.is).1
+is_below_earlier-requires-clause-earlier g c = (wide_at g.L.Lane.code (length c.args.lower.now) 1 c.args.level.now c.requires.level
+    (omega arith) c.loop-x.x c.index-owns-x.result c.loop-x-test.true c.index-owns-x.is).1
 
 pub loop-x-preserved : goal.loop-x-preserved
 loop-x-preserved g c =
@@ -18,5 +19,6 @@ loop-x-preserved g c =
     let x = c.loop-x.x in
     let key = wide_at code columns c.args.shift c.args.keys.now c.requires.keys c.requires.shift x c.index-others-x.result c.loop-x-test.true c.index-others-x.is in
     let own = wide_at code columns 1 c.args.level.now c.requires.level (omega arith) x c.index-owns-x.result c.loop-x-test.true c.index-owns-x.is in
-    tested_more code side (later_below side) c.args.keys.now c.args.shift c.args.level.now c.loop-x.lower x c.index-others-x.result c.index-owns-x.result c.is_below_earlier.result (omega arith) key.0 own.0 c.is_below_earlier.ensures
+    tested_more code side (later_below side) c.args.keys.now c.args.shift c.args.level.now c.loop-x.lower x c.index-others-x.result c.index-owns-x.result c.is_below_earlier.result
+    (omega arith) key.0 own.0 c.is_below_earlier.ensures
     c.loop-x.invariant

@@ -10,4 +10,5 @@ loop-x-preserved g c =
     let side = g.S.Side.NAME in
     let x = c.loop-x.x in
     subst (λ (r : Rank). IsLow m side (IsRoundBefore m.adjacency c.args.at (c.args.y + 1) (x + 1)) r) (sym c.lower-lowest.ensures)
-    (span_more m side (g.met.G.Heights.whole c.args.grid.now) m.adjacency c.args.at c.args.y x c.loop-x.lowest c.rank_beside.result c.requires.near (omega arith, omega arith) c.loop-x.invariant c.rank_beside.ensures)
+    (span_more m side (g.met.G.Heights.whole c.args.grid.now) m.adjacency c.args.at c.args.y x c.loop-x.lowest c.rank_beside.result c.requires.near
+    (omega arith, omega arith) c.loop-x.invariant c.rank_beside.ensures)

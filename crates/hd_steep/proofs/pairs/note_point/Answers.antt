@@ -13,7 +13,8 @@ returns-then-is_surrounded-clause-found g c =
     let m : Map = g.G.Heights.map c.args.grid.now in
     let places : List ℕ = c.args.places.now in
     let round : (p q : Pos) → InGrid m.size p → InGrid m.size q → place_of m.size p ≡ c.args.index → IsNear p.x q.x → IsNear p.y q.y → slice_get places (place_of m.size q) ≡ Some c.args.place =
-    subst (λ (s : Size). (p q : Pos) → InGrid s p → InGrid s q → place_of s p ≡ c.args.index → IsNear p.x q.x → IsNear p.y q.y → slice_get places (place_of s q) ≡ Some c.args.place) c.size-size.ensures
+    subst (λ (s : Size). (p q : Pos) → InGrid s p → InGrid s q → place_of s p ≡ c.args.index → IsNear p.x q.x → IsNear p.y q.y
+    → slice_get places (place_of s q) ≡ Some c.args.place) c.size-size.ensures
     (c.is_surrounded.ensures c.if-is_surrounded.true) in
     record {
       borders = found-past m g.S.Side.NAME places c.args.index c.args.place (surrounded-apart m places c.args.place c.args.index round) c.args.found.now.borders.items c.requires.before.borders;
@@ -21,7 +22,8 @@ returns-then-is_surrounded-clause-found g c =
     }
 
 pub position_of-at-requires : goal.position_of-at-requires
-position_of-at-requires g c = subst (λ (s : Size). c.args.index < cell_count s) (sym c.size-size.ensures) (subst (λ n. c.args.index < n) c.requires.whole (slice_get_within c.args.places.now c.args.index c.args.place c.requires.place))
+position_of-at-requires g c = subst (λ (s : Size). c.args.index < cell_count s) (sym c.size-size.ensures)
+    (subst (λ n. c.args.index < n) c.requires.whole (slice_get_within c.args.places.now c.args.index c.args.place c.requires.place))
 
 pub returns-clause-found : goal.returns-clause-found
 returns-clause-found g c =
@@ -30,7 +32,8 @@ returns-clause-found g c =
     let inside : InGrid m.size c.position_of-at.result = subst (λ (s : Size). InGrid s c.position_of-at.result) c.size-size.ensures c.position_of-at.ensures.in_grid in
     let gone : Present m c.position_of-at.result → ⊥ = λ here. (let yes = c.is_present.ensures.1 here in let no = c.if-is_present.false in cc) in
     record {
-      borders = found-past m g.S.Side.NAME c.args.places.now c.args.index c.args.place (λ j p less across e. absent-apart m c.args.places.now c.args.place c.position_of-at.result inside gone j p less across (e ∙ sym is))
+      borders = found-past m g.S.Side.NAME c.args.places.now c.args.index c.args.place
+          (λ j p less across e. absent-apart m c.args.places.now c.args.place c.position_of-at.result inside gone j p less across (e ∙ sym is))
           c.args.found.now.borders.items c.requires.before.borders;
       indexed = c.requires.before.indexed;
     }

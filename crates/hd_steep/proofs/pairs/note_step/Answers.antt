@@ -11,7 +11,8 @@ use Rattle.hd_steep.proofs.pairs.note_step.Goals as goal
 
 pub note_pair-requires-clause-small : goal.note_pair-requires-clause-small
 note_pair-requires-clause-small g c = λ k d inside.
-    let few = found-few (g.G.Heights.map c.args.grid.now) g.S.Side.NAME c.args.places.now (g.met.G.Heights.whole c.args.grid.now) _ c.args.place c.args.found.now.borders.items c.requires.before.borders
+    let few = found-few (g.G.Heights.map c.args.grid.now) g.S.Side.NAME c.args.places.now
+    (g.met.G.Heights.whole c.args.grid.now) _ c.args.place c.args.found.now.borders.items c.requires.before.borders
     (get_or c.args.found.now.borders.items k d) (Contains-get_or c.args.found.now.borders.items k d inside) in
     omega arith
 
@@ -21,7 +22,8 @@ returns-in-Some-clause-found g c =
     let inside : InGrid m.size c.args.at = c.requires.present.in_grid in
     let there : InGrid m.size c.in-Some.to = subst (λ (s : Size). InGrid s c.in-Some.to) c.size.ensures c.in-Some.ensures.0 in
     record {
-      borders = found-pair m g.S.Side.NAME c.args.places.now (IsSeenTo m c.args.at c.args.step) (IsSeenTo m c.args.at (c.args.step + 1)) c.args.at c.in-Some.to inside there c.args.place c.requires.place
+      borders = found-pair m g.S.Side.NAME c.args.places.now (IsSeenTo m c.args.at c.args.step)
+          (IsSeenTo m c.args.at (c.args.step + 1)) c.args.at c.in-Some.to inside there c.args.place c.requires.place
           (step-fresh m c.args.at inside c.args.step c.requires.step c.in-Some.to there c.in-Some.ensures.1 c.in-Some.ensures.2)
           (step-more m c.args.at inside c.args.step c.requires.step c.in-Some.to there c.in-Some.ensures.1 c.in-Some.ensures.2)
           c.args.found.now.borders.items c.note_pair.new.found.borders.items (indexed-once c.args.found.now.slots.items c.args.found.now.borders.items c.requires.before.indexed)

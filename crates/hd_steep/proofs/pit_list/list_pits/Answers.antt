@@ -26,4 +26,5 @@ loop-index-preserved g c =
 
 pub returns : goal.returns
 returns g c =
-    pits_all (g.G.Heights.map c.args.grid.now) g.S.Side.NAME c.loop-index.index c.loop-index.pits.items (let long = c.requires.whole in omega (arith, long, c.loop-index-test.false)) c.loop-index.invariant
+    pits_all (g.G.Heights.map c.args.grid.now) g.S.Side.NAME c.loop-index.index c.loop-index.pits.items
+    (let long = c.requires.whole in omega (arith, long, c.loop-index-test.false)) c.loop-index.invariant

@@ -27,7 +27,9 @@ bounds-numbers-pits g c =
 
 pub loop-number-preserved : goal.loop-number-preserved
 loop-number-preserved g c =
-    numbers_more (g.G.Heights.map c.args._grid.now) g.S.Side.NAME c.args.pits.now c.requires.pits c.args.first c.loop-number.number past_end c.args.numbers.now c.loop-number.numbers c.loop-number-test.true c.requires.whole c.loop-number.invariant
+    numbers_more (g.G.Heights.map c.args._grid.now) g.S.Side.NAME c.args.pits.now c.requires.pits c.args.first c.loop-number.number past_end c.args.numbers.now
+    c.loop-number.numbers c.loop-number-test.true c.requires.whole c.loop-number.invariant
 
 pub returns : goal.returns
-returns g c = numbers_all (g.G.Heights.map c.args._grid.now) g.S.Side.NAME c.args.pits.now c.requires.pits c.args.first c.loop-number.number c.args.numbers.now c.loop-number.numbers c.loop-number-test.false c.loop-number.invariant
+returns g c = numbers_all (g.G.Heights.map c.args._grid.now) g.S.Side.NAME c.args.pits.now c.requires.pits c.args.first c.loop-number.number c.args.numbers.now
+    c.loop-number.numbers c.loop-number-test.false c.loop-number.invariant

@@ -18,7 +18,8 @@ returns-clause-each g c =
     let ys = c.sort_unstable_by.new.self in
     let less : Lower → Lower → Bool = λ a b. below_by side a.rank b.rank in
     let sorted = c.sort_unstable_by.ensures.sorted less (lower_order (below_by side) (below_by-order side)) (answers_always _ _ _ (λ f a r h k. search rules)) in
-    let both = sorted_in_place m side c.args.point raw c.deref_mut.result.now ys c.deref_mut.ensures.value c.sort_unstable_by.ensures.permutation sorted c.gather_lower-lower.ensures.each c.gather_lower-lower.ensures.rise in
+    let both = sorted_in_place m side c.args.point raw c.deref_mut.result.now ys c.deref_mut.ensures.value c.sort_unstable_by.ensures.permutation sorted
+    c.gather_lower-lower.ensures.each c.gather_lower-lower.ensures.rise in
     subst (λ xs. (q : Rank) → Contains (ranks_of xs) q ↔ LowerNeighbour m side c.args.point q) (sym (refill_all raw ys (c.sort_unstable_by.ensures.len ∙ ap length c.deref_mut.ensures.value))) both.0
 
 pub returns-clause-in_order : goal.returns-clause-in_order
@@ -29,5 +30,6 @@ returns-clause-in_order g c =
     let ys = c.sort_unstable_by.new.self in
     let less : Lower → Lower → Bool = λ a b. below_by side a.rank b.rank in
     let sorted = c.sort_unstable_by.ensures.sorted less (lower_order (below_by side) (below_by-order side)) (answers_always _ _ _ (λ f a r h k. search rules)) in
-    let both = sorted_in_place m side c.args.point raw c.deref_mut.result.now ys c.deref_mut.ensures.value c.sort_unstable_by.ensures.permutation sorted c.gather_lower-lower.ensures.each c.gather_lower-lower.ensures.rise in
+    let both = sorted_in_place m side c.args.point raw c.deref_mut.result.now ys c.deref_mut.ensures.value c.sort_unstable_by.ensures.permutation sorted
+    c.gather_lower-lower.ensures.each c.gather_lower-lower.ensures.rise in
     subst (λ xs. AllPairs (λ a b. below_by side a b ≡ true) (ranks_of xs)) (sym (refill_all raw ys (c.sort_unstable_by.ensures.len ∙ ap length c.deref_mut.ensures.value))) both.1

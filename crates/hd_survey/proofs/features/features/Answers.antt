@@ -23,8 +23,16 @@ tallies_are g c =
 
 pub owned_tallies-requires : goal.owned_tallies-requires
 owned_tallies-requires g c =
-    let m = g.G.Heights.map c.args.grid.now in
-    (m, g.S.Side.NAME, c.args.percent.thousandths, g.met.G.Heights.whole c.args.grid.now, c.in_ok-pruned.ensures, tallies_have m g.S.Side.NAME c.as_slice.result.now (tallies_are g (goal.at.owned_tallies-requires g c).After-as_slice), c.cells_of.ensures)
+    let m = g.G.Heights.map c.args.grid.now in (
+      m,
+      g.S.Side.NAME,
+      c.args.percent.thousandths,
+      g.met.G.Heights.whole c.args.grid.now,
+      c.in_ok-pruned.ensures,
+      tallies_have m g.S.Side.NAME c.as_slice.result.now
+          (tallies_are g (goal.at.owned_tallies-requires g c).After-as_slice),
+      c.cells_of.ensures,
+    )
 
 pub list_features-requires-clause-heights : goal.list_features-requires-clause-heights
 list_features-requires-clause-heights g c =

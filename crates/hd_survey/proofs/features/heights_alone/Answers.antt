@@ -13,14 +13,16 @@ use Rattle.hd_survey.proofs.features.heights_alone.Goals.{After-list_heights}
 -- what is known of the list, if it is made
 listed : (g : Over) (c : After-list_heights g) → IfOk c.list_heights.result (HeightOutcome (g.G.Heights.map c.args.grid.now) g.S.Side.NAME c.args.percent.thousandths)
 listed g c =
-    let found = kept_known (g.G.Heights.map c.args.grid.now) g.S.Side.NAME c.args.percent.thousandths c.find_kept.new.self c.kept-kept.result.now c.find_kept.ensures.findings c.in_ok-find_kept.ensures.found c.kept-kept.ensures in
+    let found = kept_known (g.G.Heights.map c.args.grid.now) g.S.Side.NAME c.args.percent.thousandths c.find_kept.new.self c.kept-kept.result.now c.find_kept.ensures.findings
+    c.in_ok-find_kept.ensures.found c.kept-kept.ensures in
     IfOk-weaker c.list_heights.result _ _ (λ list is.
     height_outcome (g.G.Heights.map c.args.grid.now) g.S.Side.NAME c.args.percent.thousandths (g.met.G.Heights.whole c.args.grid.now) found.roots c.kept-kept.result.now.pits found.regions found.alone
     c.as_slice.result.now c.NAME.result c.args.range list c.as_slice.ensures c.NAME.ensures c.requires.range is) c.list_heights.ensures
 
 pub list_heights-requires-clause-heights : goal.list_heights-requires-clause-heights
 list_heights-requires-clause-heights g c =
-    let found = kept_known (g.G.Heights.map c.args.grid.now) g.S.Side.NAME c.args.percent.thousandths c.find_kept.new.self c.kept-kept.result.now c.find_kept.ensures.findings c.in_ok-find_kept.ensures.found c.kept-kept.ensures in
+    let found = kept_known (g.G.Heights.map c.args.grid.now) g.S.Side.NAME c.args.percent.thousandths c.find_kept.new.self c.kept-kept.result.now c.find_kept.ensures.findings
+    c.in_ok-find_kept.ensures.found c.kept-kept.ensures in
     subst (λ (ks : List Kept). All HasHeights ks) (sym c.as_slice.ensures)
     (heights_known (g.G.Heights.map c.args.grid.now) g.S.Side.NAME c.args.percent.thousandths (g.met.G.Heights.whole c.args.grid.now) found.roots c.kept-kept.result.now.pits found.regions found.alone)
 

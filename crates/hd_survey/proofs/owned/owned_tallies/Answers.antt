@@ -53,6 +53,7 @@ returns c =
     (λ all is.
     subst (λ (ks : List Kept). AreOwnedTallies ks c.args.pruned.now.owners tallies all.items) c.as_slice-kept.ensures
     (subst (λ (os : List Owned). AreOwnedTallies kept os tallies all.items) c.as_slice-owners.ensures
-    (owned_are c.requires.0 c.requires.1 c.requires.2 c.requires.3 c.args.pruned.now.steps kept owners (known (goal.at.returns c).After-as_slice-owners) tallies c.requires.5 places c.args.count c.requires.6 c.in_ok-places.ensures
+    (owned_are c.requires.0 c.requires.1 c.requires.2 c.requires.3 c.args.pruned.now.steps kept owners
+    (known (goal.at.returns c).After-as_slice-owners) tallies c.requires.5 places c.args.count c.requires.6 c.in_ok-places.ensures
     all.items (subst (λ (ps : List ℕ). ArePlacedTallies (length kept) ps owners tallies all.items) c.as_slice.ensures.value is))))
     c.place_tallies.ensures

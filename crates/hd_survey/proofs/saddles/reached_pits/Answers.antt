@@ -19,7 +19,8 @@ place_of-place-requires-clause-few g c =
 pub place_of-place-requires-clause-there : goal.place_of-place-requires-clause-there
 place_of-place-requires-clause-there g c =
     let are = c.requires.findings.merges c.merges.result.now c.merges.ensures in
-    subst (λ (xs : List Low). IsLow xs c.args.from) (sym c.as_slice.ensures) (((merges_of_map (g.G.Heights.map c.args._grid.now) g.S.Side.NAME c.merges.result.now are).pits c.args.from).1 c.requires.from)
+    subst (λ (xs : List Low). IsLow xs c.args.from) (sym c.as_slice.ensures) (((merges_of_map (g.G.Heights.map c.args._grid.now) g.S.Side.NAME c.merges.result.now are).pits
+    c.args.from).1 c.requires.from)
 
 pub joined_lows-requires-clause-from : goal.joined_lows-requires-clause-from
 joined_lows-requires-clause-from g c =
@@ -45,7 +46,9 @@ returns g c =
     let lows = c.as_slice-2.result.now in
     let are : AreMergesOf m side lows c.as_slice-3.result.now = rw (c.as_slice-2.ensures, c.as_slice-3.ensures) (merges_of_map m side x found) in
     let pits : ArePits m side (ranks_of lows) = rw c.as_slice-2.ensures found.pits in
-    let at : rank_at lows c.place_of-place.result ≡ c.args.from = ap (λ (xs : List Low). rank_at xs c.place_of-place.result) (c.as_slice-2.ensures ∙ sym c.as_slice.ensures) ∙ c.place_of-place.ensures.low in
+    let at : rank_at lows c.place_of-place.result ≡ c.args.from = ap (λ (xs : List Low). rank_at xs c.place_of-place.result) (c.as_slice-2.ensures ∙ sym c.as_slice.ensures)
+    ∙ c.place_of-place.ensures.low in
     IfOk-weaker c.joined_lows.result _ _
-    (λ joined told. reached-lows m side c.args.saddle c.args.from c.requires.from.point c.requires.low lows c.place_of-place.result at joined.items (told m (g.met.G.Heights.whole c.args._grid.now) are) pits)
+    (λ joined told. reached-lows m side c.args.saddle c.args.from c.requires.from.point c.requires.low lows c.place_of-place.result at joined.items
+    (told m (g.met.G.Heights.whole c.args._grid.now) are) pits)
     c.joined_lows.ensures

@@ -16,7 +16,8 @@ place_of-first-requires-clause-few g c =
 pub place_of-first-requires-clause-there : goal.place_of-first-requires-clause-there
 place_of-first-requires-clause-there g c =
     let are = c.find_merges.ensures.findings.merges c.merges.result.now c.merges.ensures in
-    subst (λ (xs : List Low). IsLow xs c.args.from) (sym c.as_slice.ensures) (((merges_of_map (g.G.Heights.map c.args.grid.now) g.S.Side.NAME c.merges.result.now are).pits c.args.from).1 c.requires.from)
+    subst (λ (xs : List Low). IsLow xs c.args.from) (sym c.as_slice.ensures) (((merges_of_map (g.G.Heights.map c.args.grid.now) g.S.Side.NAME c.merges.result.now are).pits
+    c.args.from).1 c.requires.from)
 
 pub place_of-second-requires-clause-few : goal.place_of-second-requires-clause-few
 place_of-second-requires-clause-few g c =
@@ -52,7 +53,8 @@ returns-clause-saddle g c =
     let m = g.G.Heights.map c.args.grid.now in
     let side = g.S.Side.NAME in
     let x = c.merges.result.now in
-    let are : AreMergesOf m side c.as_slice-3.result.now c.as_slice-4.result.now = rw (c.as_slice-3.ensures, c.as_slice-4.ensures) (merges_of_map m side x (c.find_merges.ensures.findings.merges x c.merges.ensures)) in
+    let are : AreMergesOf m side c.as_slice-3.result.now c.as_slice-4.result.now = rw (c.as_slice-3.ensures, c.as_slice-4.ensures)
+    (merges_of_map m side x (c.find_merges.ensures.findings.merges x c.merges.ensures)) in
     let first = ap (λ (xs : List Low). rank_at xs c.place_of-first.result) (c.as_slice-3.ensures ∙ sym c.as_slice.ensures) ∙ c.place_of-first.ensures.low in
     let second = ap (λ (xs : List Low). rank_at xs c.place_of-second.result) (c.as_slice-3.ensures ∙ sym c.as_slice-2.ensures) ∙ c.place_of-second.ensures.low in
     IfOk-weaker c.saddle_of_merges.result _ _ (λ saddle is. rw (sym first, sym second) (is m (g.met.G.Heights.whole c.args.grid.now) are)) c.saddle_of_merges.ensures

@@ -28,7 +28,8 @@ indexes-preserved c =
       | in-Some w ↦
           let read = number-some c.args.regions.now.pits n w.in-Some.number (sym c.number.ensures ∙ w.in-Some.is) in
           let fits : n < length points = omega (arith, read.0, read.1, c.indexes.invariant.whole) in
-          let old : w.index_mut.result.now ≡ get_or points n 0 = w.index_mut.ensures.value ∙ get_or_default points w.in-Some.number _ 0 (omega (arith, read.0, fits)) ∙ ap (λ k. get_or points k 0) (sym read.0) in
+          let old : w.index_mut.result.now ≡ get_or points n 0 = w.index_mut.ensures.value ∙ get_or_default points w.in-Some.number _ 0 (omega (arith, read.0, fits))
+          ∙ ap (λ k. get_or points k 0) (sym read.0) in
           let items : c.match-number.points.items ≡ set points n (get_or points n 0 + 1) =
           ap (λ v. v.items) w.points-is ∙ ap (λ k. set points w.in-Some.number (k + 1)) old ∙ ap (λ k. set points k (get_or points n 0 + 1)) (sym read.0) in
           record {

@@ -6,7 +6,8 @@ use Rattle.hd_survey.proofs.values.value_among.Goals as goal
 pub returns-clause-is : goal.returns-clause-is
 returns-clause-is g c =
     IfOk-weaker c.evaluate.result _ _ (λ value is.
-    served c.heights_alone_serve.ensures (g.G.Heights.map c.args.grid.now) c.args.notation.now c.in_ok-regions.regions _ value c.in_ok-regions.ensures.are (c.from.ensures ∙ c.requires.presence.count) is)
+    served c.heights_alone_serve.ensures (g.G.Heights.map c.args.grid.now) c.args.notation.now c.in_ok-regions.regions _ value c.in_ok-regions.ensures.are
+    (c.from.ensures ∙ c.requires.presence.count) is)
     c.evaluate.ensures
 
 pub returns-clause-small : goal.returns-clause-small

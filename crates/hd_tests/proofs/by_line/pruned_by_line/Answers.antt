@@ -15,4 +15,5 @@ pub prune-requires-clause-sz : goal.prune-requires-clause-sz
 prune-requires-clause-sz g c =
     let fits : SFits w64 c.height_span-sz.result = search rules in
     rw (to_z-of_z w64 c.height_span-sz.result fits)
-    (subst (λ x. SzIs (map_of x) c.height_span-sz.result) (sym c.new-falls.ensures) (c.height_span-sz.ensures (map_of c.args.surface.now) (surface-whole c.args.surface.now) c.presence_of.ensures.range))
+    (subst (λ x. SzIs (map_of x) c.height_span-sz.result) (sym c.new-falls.ensures)
+    (c.height_span-sz.ensures (map_of c.args.surface.now) (surface-whole c.args.surface.now) c.presence_of.ensures.range))

@@ -58,64 +58,153 @@ module _ (s : Size) (t : ℕ) (p : Pos) (limits : IsSize s) (sides : IsTileSide 
 pub overflow_add-top : goal.overflow_add-top
 overflow_add-top c =
     let tiling = c.args.tiling in
-    let below = small tiling.size tiling.side c.args.at tiling.limits tiling.tile_side c.requires.in_grid c.across-across.result c.part_before-left.result c.part_after-right.result c.part_before.result c.part_after.result c.across-across.ensures (before_as _ _ _ _ c.part_before-left.ensures c.side-side.ensures) (after_as _ _ _ _ _ _ c.part_after-right.ensures (ap (λ (s : Size). s.points) c.size-size.ensures) c.side-side.ensures) (before_as _ _ _ _ c.part_before.ensures c.side-side.ensures) (after_as _ _ _ _ _ _ c.part_after.ensures (ap (λ (s : Size). s.profiles) c.size-size.ensures) c.side-side.ensures) _ (first tiling.size tiling.side c.args.at tiling.limits tiling.tile_side c.requires.in_grid c.across-across.result c.part_before-left.result c.part_after-right.result c.part_before.result c.part_after.result c.across-across.ensures (before_as _ _ _ _ c.part_before-left.ensures c.side-side.ensures) (after_as _ _ _ _ _ _ c.part_after-right.ensures (ap (λ (s : Size). s.points) c.size-size.ensures) c.side-side.ensures) (before_as _ _ _ _ c.part_before.ensures c.side-side.ensures) (after_as _ _ _ _ _ _ c.part_after.ensures (ap (λ (s : Size). s.profiles) c.size-size.ensures) c.side-side.ensures)) in
+    let below = small tiling.size tiling.side c.args.at tiling.limits tiling.tile_side c.requires.in_grid c.across-across.result c.part_before-left.result c.part_after-right.result
+    c.part_before.result c.part_after.result c.across-across.ensures (before_as _ _ _ _ c.part_before-left.ensures c.side-side.ensures)
+    (after_as _ _ _ _ _ _ c.part_after-right.ensures (ap (λ (s : Size). s.points) c.size-size.ensures) c.side-side.ensures)
+    (before_as _ _ _ _ c.part_before.ensures c.side-side.ensures) (after_as _ _ _ _ _ _ c.part_after.ensures
+    (ap (λ (s : Size). s.profiles) c.size-size.ensures) c.side-side.ensures) _
+    (first tiling.size tiling.side c.args.at tiling.limits tiling.tile_side c.requires.in_grid c.across-across.result c.part_before-left.result c.part_after-right.result
+    c.part_before.result c.part_after.result c.across-across.ensures (before_as _ _ _ _ c.part_before-left.ensures c.side-side.ensures)
+    (after_as _ _ _ _ _ _ c.part_after-right.ensures (ap (λ (s : Size). s.points) c.size-size.ensures) c.side-side.ensures)
+    (before_as _ _ _ _ c.part_before.ensures c.side-side.ensures) (after_as _ _ _ _ _ _ c.part_after.ensures
+    (ap (λ (s : Size). s.profiles) c.size-size.ensures) c.side-side.ensures)) in
     omega (arith, below)
 
 pub overflow_add-top-2 : goal.overflow_add-top-2
 overflow_add-top-2 c =
     let tiling = c.args.tiling in
-    let below = small tiling.size tiling.side c.args.at tiling.limits tiling.tile_side c.requires.in_grid c.across-across.result c.part_before-left.result c.part_after-right.result c.part_before.result c.part_after.result c.across-across.ensures (before_as _ _ _ _ c.part_before-left.ensures c.side-side.ensures) (after_as _ _ _ _ _ _ c.part_after-right.ensures (ap (λ (s : Size). s.points) c.size-size.ensures) c.side-side.ensures) (before_as _ _ _ _ c.part_before.ensures c.side-side.ensures) (after_as _ _ _ _ _ _ c.part_after.ensures (ap (λ (s : Size). s.profiles) c.size-size.ensures) c.side-side.ensures) _ (second tiling.size tiling.side c.args.at tiling.limits tiling.tile_side c.requires.in_grid c.across-across.result c.part_before-left.result c.part_after-right.result c.part_before.result c.part_after.result c.across-across.ensures (before_as _ _ _ _ c.part_before-left.ensures c.side-side.ensures) (after_as _ _ _ _ _ _ c.part_after-right.ensures (ap (λ (s : Size). s.points) c.size-size.ensures) c.side-side.ensures) (before_as _ _ _ _ c.part_before.ensures c.side-side.ensures) (after_as _ _ _ _ _ _ c.part_after.ensures (ap (λ (s : Size). s.profiles) c.size-size.ensures) c.side-side.ensures)) in
+    let below = small tiling.size tiling.side c.args.at tiling.limits tiling.tile_side c.requires.in_grid c.across-across.result c.part_before-left.result c.part_after-right.result
+    c.part_before.result c.part_after.result c.across-across.ensures (before_as _ _ _ _ c.part_before-left.ensures c.side-side.ensures)
+    (after_as _ _ _ _ _ _ c.part_after-right.ensures (ap (λ (s : Size). s.points) c.size-size.ensures) c.side-side.ensures)
+    (before_as _ _ _ _ c.part_before.ensures c.side-side.ensures) (after_as _ _ _ _ _ _ c.part_after.ensures
+    (ap (λ (s : Size). s.profiles) c.size-size.ensures) c.side-side.ensures) _
+    (second tiling.size tiling.side c.args.at tiling.limits tiling.tile_side c.requires.in_grid c.across-across.result c.part_before-left.result c.part_after-right.result
+    c.part_before.result c.part_after.result c.across-across.ensures (before_as _ _ _ _ c.part_before-left.ensures c.side-side.ensures)
+    (after_as _ _ _ _ _ _ c.part_after-right.ensures (ap (λ (s : Size). s.points) c.size-size.ensures) c.side-side.ensures)
+    (before_as _ _ _ _ c.part_before.ensures c.side-side.ensures) (after_as _ _ _ _ _ _ c.part_after.ensures
+    (ap (λ (s : Size). s.profiles) c.size-size.ensures) c.side-side.ensures)) in
     omega (arith, below)
 
 pub overflow_add-bottom : goal.overflow_add-bottom
 overflow_add-bottom c =
     let tiling = c.args.tiling in
-    let below = small tiling.size tiling.side c.args.at tiling.limits tiling.tile_side c.requires.in_grid c.across-across.result c.part_before-left.result c.part_after-right.result c.part_before.result c.part_after.result c.across-across.ensures (before_as _ _ _ _ c.part_before-left.ensures c.side-side.ensures) (after_as _ _ _ _ _ _ c.part_after-right.ensures (ap (λ (s : Size). s.points) c.size-size.ensures) c.side-side.ensures) (before_as _ _ _ _ c.part_before.ensures c.side-side.ensures) (after_as _ _ _ _ _ _ c.part_after.ensures (ap (λ (s : Size). s.profiles) c.size-size.ensures) c.side-side.ensures) _ (third tiling.size tiling.side c.args.at tiling.limits tiling.tile_side c.requires.in_grid c.across-across.result c.part_before-left.result c.part_after-right.result c.part_before.result c.part_after.result c.across-across.ensures (before_as _ _ _ _ c.part_before-left.ensures c.side-side.ensures) (after_as _ _ _ _ _ _ c.part_after-right.ensures (ap (λ (s : Size). s.points) c.size-size.ensures) c.side-side.ensures) (before_as _ _ _ _ c.part_before.ensures c.side-side.ensures) (after_as _ _ _ _ _ _ c.part_after.ensures (ap (λ (s : Size). s.profiles) c.size-size.ensures) c.side-side.ensures)) in
+    let below = small tiling.size tiling.side c.args.at tiling.limits tiling.tile_side c.requires.in_grid c.across-across.result c.part_before-left.result c.part_after-right.result
+    c.part_before.result c.part_after.result c.across-across.ensures (before_as _ _ _ _ c.part_before-left.ensures c.side-side.ensures)
+    (after_as _ _ _ _ _ _ c.part_after-right.ensures (ap (λ (s : Size). s.points) c.size-size.ensures) c.side-side.ensures)
+    (before_as _ _ _ _ c.part_before.ensures c.side-side.ensures) (after_as _ _ _ _ _ _ c.part_after.ensures
+    (ap (λ (s : Size). s.profiles) c.size-size.ensures) c.side-side.ensures) _
+    (third tiling.size tiling.side c.args.at tiling.limits tiling.tile_side c.requires.in_grid c.across-across.result c.part_before-left.result c.part_after-right.result
+    c.part_before.result c.part_after.result c.across-across.ensures (before_as _ _ _ _ c.part_before-left.ensures c.side-side.ensures)
+    (after_as _ _ _ _ _ _ c.part_after-right.ensures (ap (λ (s : Size). s.points) c.size-size.ensures) c.side-side.ensures)
+    (before_as _ _ _ _ c.part_before.ensures c.side-side.ensures) (after_as _ _ _ _ _ _ c.part_after.ensures
+    (ap (λ (s : Size). s.profiles) c.size-size.ensures) c.side-side.ensures)) in
     omega (arith, below)
 
 pub overflow_add-bottom-2 : goal.overflow_add-bottom-2
 overflow_add-bottom-2 c =
     let tiling = c.args.tiling in
-    let below = small tiling.size tiling.side c.args.at tiling.limits tiling.tile_side c.requires.in_grid c.across-across.result c.part_before-left.result c.part_after-right.result c.part_before.result c.part_after.result c.across-across.ensures (before_as _ _ _ _ c.part_before-left.ensures c.side-side.ensures) (after_as _ _ _ _ _ _ c.part_after-right.ensures (ap (λ (s : Size). s.points) c.size-size.ensures) c.side-side.ensures) (before_as _ _ _ _ c.part_before.ensures c.side-side.ensures) (after_as _ _ _ _ _ _ c.part_after.ensures (ap (λ (s : Size). s.profiles) c.size-size.ensures) c.side-side.ensures) _ (fourth tiling.size tiling.side c.args.at tiling.limits tiling.tile_side c.requires.in_grid c.across-across.result c.part_before-left.result c.part_after-right.result c.part_before.result c.part_after.result c.across-across.ensures (before_as _ _ _ _ c.part_before-left.ensures c.side-side.ensures) (after_as _ _ _ _ _ _ c.part_after-right.ensures (ap (λ (s : Size). s.points) c.size-size.ensures) c.side-side.ensures) (before_as _ _ _ _ c.part_before.ensures c.side-side.ensures) (after_as _ _ _ _ _ _ c.part_after.ensures (ap (λ (s : Size). s.profiles) c.size-size.ensures) c.side-side.ensures)) in
+    let below = small tiling.size tiling.side c.args.at tiling.limits tiling.tile_side c.requires.in_grid c.across-across.result c.part_before-left.result c.part_after-right.result
+    c.part_before.result c.part_after.result c.across-across.ensures (before_as _ _ _ _ c.part_before-left.ensures c.side-side.ensures)
+    (after_as _ _ _ _ _ _ c.part_after-right.ensures (ap (λ (s : Size). s.points) c.size-size.ensures) c.side-side.ensures)
+    (before_as _ _ _ _ c.part_before.ensures c.side-side.ensures) (after_as _ _ _ _ _ _ c.part_after.ensures
+    (ap (λ (s : Size). s.profiles) c.size-size.ensures) c.side-side.ensures) _
+    (fourth tiling.size tiling.side c.args.at tiling.limits tiling.tile_side c.requires.in_grid c.across-across.result c.part_before-left.result c.part_after-right.result
+    c.part_before.result c.part_after.result c.across-across.ensures (before_as _ _ _ _ c.part_before-left.ensures c.side-side.ensures)
+    (after_as _ _ _ _ _ _ c.part_after-right.ensures (ap (λ (s : Size). s.points) c.size-size.ensures) c.side-side.ensures)
+    (before_as _ _ _ _ c.part_before.ensures c.side-side.ensures) (after_as _ _ _ _ _ _ c.part_after.ensures
+    (ap (λ (s : Size). s.profiles) c.size-size.ensures) c.side-side.ensures)) in
     omega (arith, below)
 
 pub overflow_mul-top : goal.overflow_mul-top
 overflow_mul-top c =
     let tiling = c.args.tiling in
-    let below = small tiling.size tiling.side c.args.at tiling.limits tiling.tile_side c.requires.in_grid c.across-across.result ((c.args.at.x - 1) / c.args.tiling.side) (min (c.args.at.x + 1) (c.args.tiling.size.points - 1) / c.args.tiling.side) c.part_before.result (min (c.args.at.y + 1) (c.args.tiling.size.profiles - 1) / c.args.tiling.side) c.across-across.ensures refl refl (before_as _ _ _ _ c.part_before.ensures c.side-side.ensures) refl _ (first tiling.size tiling.side c.args.at tiling.limits tiling.tile_side c.requires.in_grid c.across-across.result ((c.args.at.x - 1) / c.args.tiling.side) (min (c.args.at.x + 1) (c.args.tiling.size.points - 1) / c.args.tiling.side) c.part_before.result (min (c.args.at.y + 1) (c.args.tiling.size.profiles - 1) / c.args.tiling.side) c.across-across.ensures refl refl (before_as _ _ _ _ c.part_before.ensures c.side-side.ensures) refl) in
+    let below = small tiling.size tiling.side c.args.at tiling.limits tiling.tile_side c.requires.in_grid c.across-across.result ((c.args.at.x - 1) / c.args.tiling.side)
+    (min (c.args.at.x + 1) (c.args.tiling.size.points - 1) / c.args.tiling.side) c.part_before.result
+    (min (c.args.at.y + 1) (c.args.tiling.size.profiles - 1) / c.args.tiling.side) c.across-across.ensures refl refl
+    (before_as _ _ _ _ c.part_before.ensures c.side-side.ensures) refl _ (first tiling.size tiling.side c.args.at tiling.limits tiling.tile_side c.requires.in_grid
+    c.across-across.result ((c.args.at.x - 1) / c.args.tiling.side) (min (c.args.at.x + 1) (c.args.tiling.size.points - 1) / c.args.tiling.side) c.part_before.result
+    (min (c.args.at.y + 1) (c.args.tiling.size.profiles - 1) / c.args.tiling.side) c.across-across.ensures refl refl
+    (before_as _ _ _ _ c.part_before.ensures c.side-side.ensures) refl) in
     omega (arith, below)
 
 pub overflow_mul-bottom : goal.overflow_mul-bottom
 overflow_mul-bottom c =
     let tiling = c.args.tiling in
-    let below = small tiling.size tiling.side c.args.at tiling.limits tiling.tile_side c.requires.in_grid c.across-across.result ((c.args.at.x - 1) / c.args.tiling.side) (min (c.args.at.x + 1) (c.args.tiling.size.points - 1) / c.args.tiling.side) ((c.args.at.y - 1) / c.args.tiling.side) c.part_after.result c.across-across.ensures refl refl refl (after_as _ _ _ _ _ _ c.part_after.ensures (ap (λ (s : Size). s.profiles) c.size-size.ensures) c.side-side.ensures) _ (third tiling.size tiling.side c.args.at tiling.limits tiling.tile_side c.requires.in_grid c.across-across.result ((c.args.at.x - 1) / c.args.tiling.side) (min (c.args.at.x + 1) (c.args.tiling.size.points - 1) / c.args.tiling.side) ((c.args.at.y - 1) / c.args.tiling.side) c.part_after.result c.across-across.ensures refl refl refl (after_as _ _ _ _ _ _ c.part_after.ensures (ap (λ (s : Size). s.profiles) c.size-size.ensures) c.side-side.ensures)) in
+    let below = small tiling.size tiling.side c.args.at tiling.limits tiling.tile_side c.requires.in_grid c.across-across.result ((c.args.at.x - 1) / c.args.tiling.side)
+    (min (c.args.at.x + 1) (c.args.tiling.size.points - 1) / c.args.tiling.side)
+    ((c.args.at.y - 1) / c.args.tiling.side) c.part_after.result c.across-across.ensures refl refl refl
+    (after_as _ _ _ _ _ _ c.part_after.ensures (ap (λ (s : Size). s.profiles) c.size-size.ensures) c.side-side.ensures) _
+    (third tiling.size tiling.side c.args.at tiling.limits tiling.tile_side c.requires.in_grid c.across-across.result ((c.args.at.x - 1) / c.args.tiling.side)
+    (min (c.args.at.x + 1) (c.args.tiling.size.points - 1) / c.args.tiling.side)
+    ((c.args.at.y - 1) / c.args.tiling.side) c.part_after.result c.across-across.ensures refl refl refl
+    (after_as _ _ _ _ _ _ c.part_after.ensures (ap (λ (s : Size). s.profiles) c.size-size.ensures) c.side-side.ensures)) in
     omega (arith, below)
 
 pub index_mut-requires : goal.index_mut-requires
 index_mut-requires c =
     let tiling = c.args.tiling in
-    let below = inside_list tiling.size tiling.side c.args.at tiling.limits tiling.tile_side c.requires.in_grid c.across-across.result c.part_before-left.result c.part_after-right.result c.part_before.result c.part_after.result c.across-across.ensures (before_as _ _ _ _ c.part_before-left.ensures c.side-side.ensures) (after_as _ _ _ _ _ _ c.part_after-right.ensures (ap (λ (s : Size). s.points) c.size-size.ensures) c.side-side.ensures) (before_as _ _ _ _ c.part_before.ensures c.side-side.ensures) (after_as _ _ _ _ _ _ c.part_after.ensures (ap (λ (s : Size). s.profiles) c.size-size.ensures) c.side-side.ensures) c.args.stamp c.args.stamps.now.items c.requires.tiles _ (first tiling.size tiling.side c.args.at tiling.limits tiling.tile_side c.requires.in_grid c.across-across.result c.part_before-left.result c.part_after-right.result c.part_before.result c.part_after.result c.across-across.ensures (before_as _ _ _ _ c.part_before-left.ensures c.side-side.ensures) (after_as _ _ _ _ _ _ c.part_after-right.ensures (ap (λ (s : Size). s.points) c.size-size.ensures) c.side-side.ensures) (before_as _ _ _ _ c.part_before.ensures c.side-side.ensures) (after_as _ _ _ _ _ _ c.part_after.ensures (ap (λ (s : Size). s.profiles) c.size-size.ensures) c.side-side.ensures)) in
+    let below = inside_list tiling.size tiling.side c.args.at tiling.limits tiling.tile_side c.requires.in_grid c.across-across.result c.part_before-left.result
+    c.part_after-right.result c.part_before.result c.part_after.result c.across-across.ensures (before_as _ _ _ _ c.part_before-left.ensures c.side-side.ensures)
+    (after_as _ _ _ _ _ _ c.part_after-right.ensures (ap (λ (s : Size). s.points) c.size-size.ensures) c.side-side.ensures)
+    (before_as _ _ _ _ c.part_before.ensures c.side-side.ensures) (after_as _ _ _ _ _ _ c.part_after.ensures
+    (ap (λ (s : Size). s.profiles) c.size-size.ensures) c.side-side.ensures) c.args.stamp c.args.stamps.now.items c.requires.tiles _
+    (first tiling.size tiling.side c.args.at tiling.limits tiling.tile_side c.requires.in_grid c.across-across.result c.part_before-left.result c.part_after-right.result
+    c.part_before.result c.part_after.result c.across-across.ensures (before_as _ _ _ _ c.part_before-left.ensures c.side-side.ensures)
+    (after_as _ _ _ _ _ _ c.part_after-right.ensures (ap (λ (s : Size). s.points) c.size-size.ensures) c.side-side.ensures)
+    (before_as _ _ _ _ c.part_before.ensures c.side-side.ensures) (after_as _ _ _ _ _ _ c.part_after.ensures
+    (ap (λ (s : Size). s.profiles) c.size-size.ensures) c.side-side.ensures)) in
     omega (arith, below, c.args.stamps.now.ok.0)
 
 pub index_mut-requires-2 : goal.index_mut-requires-2
 index_mut-requires-2 c =
     let tiling = c.args.tiling in
-    let below = inside_list tiling.size tiling.side c.args.at tiling.limits tiling.tile_side c.requires.in_grid c.across-across.result c.part_before-left.result c.part_after-right.result c.part_before.result c.part_after.result c.across-across.ensures (before_as _ _ _ _ c.part_before-left.ensures c.side-side.ensures) (after_as _ _ _ _ _ _ c.part_after-right.ensures (ap (λ (s : Size). s.points) c.size-size.ensures) c.side-side.ensures) (before_as _ _ _ _ c.part_before.ensures c.side-side.ensures) (after_as _ _ _ _ _ _ c.part_after.ensures (ap (λ (s : Size). s.profiles) c.size-size.ensures) c.side-side.ensures) c.args.stamp c.args.stamps.now.items c.requires.tiles _ (second tiling.size tiling.side c.args.at tiling.limits tiling.tile_side c.requires.in_grid c.across-across.result c.part_before-left.result c.part_after-right.result c.part_before.result c.part_after.result c.across-across.ensures (before_as _ _ _ _ c.part_before-left.ensures c.side-side.ensures) (after_as _ _ _ _ _ _ c.part_after-right.ensures (ap (λ (s : Size). s.points) c.size-size.ensures) c.side-side.ensures) (before_as _ _ _ _ c.part_before.ensures c.side-side.ensures) (after_as _ _ _ _ _ _ c.part_after.ensures (ap (λ (s : Size). s.profiles) c.size-size.ensures) c.side-side.ensures)) in
+    let below = inside_list tiling.size tiling.side c.args.at tiling.limits tiling.tile_side c.requires.in_grid c.across-across.result c.part_before-left.result
+    c.part_after-right.result c.part_before.result c.part_after.result c.across-across.ensures (before_as _ _ _ _ c.part_before-left.ensures c.side-side.ensures)
+    (after_as _ _ _ _ _ _ c.part_after-right.ensures (ap (λ (s : Size). s.points) c.size-size.ensures) c.side-side.ensures)
+    (before_as _ _ _ _ c.part_before.ensures c.side-side.ensures) (after_as _ _ _ _ _ _ c.part_after.ensures
+    (ap (λ (s : Size). s.profiles) c.size-size.ensures) c.side-side.ensures) c.args.stamp c.args.stamps.now.items c.requires.tiles _
+    (second tiling.size tiling.side c.args.at tiling.limits tiling.tile_side c.requires.in_grid c.across-across.result c.part_before-left.result c.part_after-right.result
+    c.part_before.result c.part_after.result c.across-across.ensures (before_as _ _ _ _ c.part_before-left.ensures c.side-side.ensures)
+    (after_as _ _ _ _ _ _ c.part_after-right.ensures (ap (λ (s : Size). s.points) c.size-size.ensures) c.side-side.ensures)
+    (before_as _ _ _ _ c.part_before.ensures c.side-side.ensures) (after_as _ _ _ _ _ _ c.part_after.ensures
+    (ap (λ (s : Size). s.profiles) c.size-size.ensures) c.side-side.ensures)) in
     omega (arith, below, c.args.stamps.now.ok.0)
 
 pub index_mut-requires-3 : goal.index_mut-requires-3
 index_mut-requires-3 c =
     let tiling = c.args.tiling in
-    let below = inside_list tiling.size tiling.side c.args.at tiling.limits tiling.tile_side c.requires.in_grid c.across-across.result c.part_before-left.result c.part_after-right.result c.part_before.result c.part_after.result c.across-across.ensures (before_as _ _ _ _ c.part_before-left.ensures c.side-side.ensures) (after_as _ _ _ _ _ _ c.part_after-right.ensures (ap (λ (s : Size). s.points) c.size-size.ensures) c.side-side.ensures) (before_as _ _ _ _ c.part_before.ensures c.side-side.ensures) (after_as _ _ _ _ _ _ c.part_after.ensures (ap (λ (s : Size). s.profiles) c.size-size.ensures) c.side-side.ensures) c.args.stamp c.args.stamps.now.items c.requires.tiles _ (third tiling.size tiling.side c.args.at tiling.limits tiling.tile_side c.requires.in_grid c.across-across.result c.part_before-left.result c.part_after-right.result c.part_before.result c.part_after.result c.across-across.ensures (before_as _ _ _ _ c.part_before-left.ensures c.side-side.ensures) (after_as _ _ _ _ _ _ c.part_after-right.ensures (ap (λ (s : Size). s.points) c.size-size.ensures) c.side-side.ensures) (before_as _ _ _ _ c.part_before.ensures c.side-side.ensures) (after_as _ _ _ _ _ _ c.part_after.ensures (ap (λ (s : Size). s.profiles) c.size-size.ensures) c.side-side.ensures)) in
+    let below = inside_list tiling.size tiling.side c.args.at tiling.limits tiling.tile_side c.requires.in_grid c.across-across.result c.part_before-left.result
+    c.part_after-right.result c.part_before.result c.part_after.result c.across-across.ensures (before_as _ _ _ _ c.part_before-left.ensures c.side-side.ensures)
+    (after_as _ _ _ _ _ _ c.part_after-right.ensures (ap (λ (s : Size). s.points) c.size-size.ensures) c.side-side.ensures)
+    (before_as _ _ _ _ c.part_before.ensures c.side-side.ensures) (after_as _ _ _ _ _ _ c.part_after.ensures
+    (ap (λ (s : Size). s.profiles) c.size-size.ensures) c.side-side.ensures) c.args.stamp c.args.stamps.now.items c.requires.tiles _
+    (third tiling.size tiling.side c.args.at tiling.limits tiling.tile_side c.requires.in_grid c.across-across.result c.part_before-left.result c.part_after-right.result
+    c.part_before.result c.part_after.result c.across-across.ensures (before_as _ _ _ _ c.part_before-left.ensures c.side-side.ensures)
+    (after_as _ _ _ _ _ _ c.part_after-right.ensures (ap (λ (s : Size). s.points) c.size-size.ensures) c.side-side.ensures)
+    (before_as _ _ _ _ c.part_before.ensures c.side-side.ensures) (after_as _ _ _ _ _ _ c.part_after.ensures
+    (ap (λ (s : Size). s.profiles) c.size-size.ensures) c.side-side.ensures)) in
     omega (arith, below, c.args.stamps.now.ok.0)
 
 pub index_mut-requires-4 : goal.index_mut-requires-4
 index_mut-requires-4 c =
     let tiling = c.args.tiling in
-    let below = inside_list tiling.size tiling.side c.args.at tiling.limits tiling.tile_side c.requires.in_grid c.across-across.result c.part_before-left.result c.part_after-right.result c.part_before.result c.part_after.result c.across-across.ensures (before_as _ _ _ _ c.part_before-left.ensures c.side-side.ensures) (after_as _ _ _ _ _ _ c.part_after-right.ensures (ap (λ (s : Size). s.points) c.size-size.ensures) c.side-side.ensures) (before_as _ _ _ _ c.part_before.ensures c.side-side.ensures) (after_as _ _ _ _ _ _ c.part_after.ensures (ap (λ (s : Size). s.profiles) c.size-size.ensures) c.side-side.ensures) c.args.stamp c.args.stamps.now.items c.requires.tiles _ (fourth tiling.size tiling.side c.args.at tiling.limits tiling.tile_side c.requires.in_grid c.across-across.result c.part_before-left.result c.part_after-right.result c.part_before.result c.part_after.result c.across-across.ensures (before_as _ _ _ _ c.part_before-left.ensures c.side-side.ensures) (after_as _ _ _ _ _ _ c.part_after-right.ensures (ap (λ (s : Size). s.points) c.size-size.ensures) c.side-side.ensures) (before_as _ _ _ _ c.part_before.ensures c.side-side.ensures) (after_as _ _ _ _ _ _ c.part_after.ensures (ap (λ (s : Size). s.profiles) c.size-size.ensures) c.side-side.ensures)) in
+    let below = inside_list tiling.size tiling.side c.args.at tiling.limits tiling.tile_side c.requires.in_grid c.across-across.result c.part_before-left.result
+    c.part_after-right.result c.part_before.result c.part_after.result c.across-across.ensures (before_as _ _ _ _ c.part_before-left.ensures c.side-side.ensures)
+    (after_as _ _ _ _ _ _ c.part_after-right.ensures (ap (λ (s : Size). s.points) c.size-size.ensures) c.side-side.ensures)
+    (before_as _ _ _ _ c.part_before.ensures c.side-side.ensures) (after_as _ _ _ _ _ _ c.part_after.ensures
+    (ap (λ (s : Size). s.profiles) c.size-size.ensures) c.side-side.ensures) c.args.stamp c.args.stamps.now.items c.requires.tiles _
+    (fourth tiling.size tiling.side c.args.at tiling.limits tiling.tile_side c.requires.in_grid c.across-across.result c.part_before-left.result c.part_after-right.result
+    c.part_before.result c.part_after.result c.across-across.ensures (before_as _ _ _ _ c.part_before-left.ensures c.side-side.ensures)
+    (after_as _ _ _ _ _ _ c.part_after-right.ensures (ap (λ (s : Size). s.points) c.size-size.ensures) c.side-side.ensures)
+    (before_as _ _ _ _ c.part_before.ensures c.side-side.ensures) (after_as _ _ _ _ _ _ c.part_after.ensures
+    (ap (λ (s : Size). s.profiles) c.size-size.ensures) c.side-side.ensures)) in
     omega (arith, below, c.args.stamps.now.ok.0)
 
 pub returns : goal.returns
 returns c =
     let tiling = c.args.tiling in
-    stamped tiling.size tiling.side c.args.at tiling.limits tiling.tile_side c.requires.in_grid c.across-across.result c.part_before-left.result c.part_after-right.result c.part_before.result c.part_after.result c.across-across.ensures (before_as _ _ _ _ c.part_before-left.ensures c.side-side.ensures) (after_as _ _ _ _ _ _ c.part_after-right.ensures (ap (λ (s : Size). s.points) c.size-size.ensures) c.side-side.ensures) (before_as _ _ _ _ c.part_before.ensures c.side-side.ensures) (after_as _ _ _ _ _ _ c.part_after.ensures (ap (λ (s : Size). s.profiles) c.size-size.ensures) c.side-side.ensures) c.args.stamp c.args.stamps.now.items c.requires.tiles
+    stamped tiling.size tiling.side c.args.at tiling.limits tiling.tile_side c.requires.in_grid c.across-across.result c.part_before-left.result c.part_after-right.result
+    c.part_before.result c.part_after.result c.across-across.ensures (before_as _ _ _ _ c.part_before-left.ensures c.side-side.ensures)
+    (after_as _ _ _ _ _ _ c.part_after-right.ensures (ap (λ (s : Size). s.points) c.size-size.ensures) c.side-side.ensures)
+    (before_as _ _ _ _ c.part_before.ensures c.side-side.ensures) (after_as _ _ _ _ _ _ c.part_after.ensures
+    (ap (λ (s : Size). s.profiles) c.size-size.ensures) c.side-side.ensures) c.args.stamp c.args.stamps.now.items c.requires.tiles

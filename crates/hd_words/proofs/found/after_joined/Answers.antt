@@ -25,7 +25,8 @@ returns-in_err-with_name-clause-none c =
     let tile = option_copied-absent (starts_with nat_eq word (codes "--tile=")) (drop 7 word) c.joined_value.result c.joined_value.ensures first in
     let save = option_copied-absent (starts_with nat_eq word (codes "--save=")) (drop 7 word) c.joined_value-in_default.result c.joined_value-in_default.ensures second in
     let plain : begins_with_dash word ≡ false = cc in
-    rw c.from_residual.ensures (λ words. rw (given_of-plain_word word words c.requires tile save plain) (with_name-full (found_so_far c.args.found) word (given_of Options words) c.in_err-with_name.ensures.none))
+    rw c.from_residual.ensures (λ words. rw (given_of-plain_word word words c.requires tile save plain)
+    (with_name-full (found_so_far c.args.found) word (given_of Options words) c.in_err-with_name.ensures.none))
 
 pub returns-in_ok-with_name-clause-some : goal.returns-in_ok-with_name-clause-some
 returns-in_ok-with_name-clause-some c =

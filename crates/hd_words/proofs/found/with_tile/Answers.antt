@@ -5,7 +5,8 @@ use Rattle.hd_words.proofs.WordSteps.{with_tile-first, with_tile-full}
 use Rattle.hd_words.proofs.found.with_tile.Goals as goal
 
 pub returns-in-Some-clause-none : goal.returns-in-Some-clause-none
-returns-in-Some-clause-none c = λ words. rw c.in-Some.is (with_tile-full (names_in c.args.found.names) (found_so_far c.args.found).saves c.in-Some.field-0.now c.args.value.now (given_of Options words))
+returns-in-Some-clause-none c = λ words. rw c.in-Some.is (with_tile-full (names_in c.args.found.names) (found_so_far c.args.found).saves c.in-Some.field-0.now c.args.value.now
+    (given_of Options words))
 
 pub returns-in-None-clause-some : goal.returns-in-None-clause-some
 returns-in-None-clause-some c = λ words. rw c.in-None.is (with_tile-first (names_in c.args.found.names) (found_so_far c.args.found).saves c.args.value.now (given_of Options words))

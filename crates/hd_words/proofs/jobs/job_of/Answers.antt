@@ -24,7 +24,8 @@ pub returns-in_ok-matches-in-Dales-clause-limits : goal.returns-in_ok-matches-in
 returns-in_ok-matches-in-Dales-clause-limits c =
     let words = map string_bytes c.args.words.now in
     let asked : AsksBy line.Dales c.args.command words = Asks-by words c.args.command line.Dales c.requires (ap line_of c.in-Dales.is) in
-    subst IsWithinLimits (sym (c.dales_job.ensures asked.form.request (Asks-of line.Dales words c.in_ok-matches-in-Dales.matches asked.form c.in_ok-matches-in-Dales.ensures))) (IsWithinLimits-request words asked.form.request asked.form.is)
+    subst IsWithinLimits (sym (c.dales_job.ensures asked.form.request (Asks-of line.Dales words c.in_ok-matches-in-Dales.matches asked.form c.in_ok-matches-in-Dales.ensures)))
+    (IsWithinLimits-request words asked.form.request asked.form.is)
 
 pub matches_of-requires-in-Run : goal.matches_of-requires-in-Run
 matches_of-requires-in-Run c = (Asks-by (map string_bytes c.args.words.now) c.args.command line.Run c.requires (ap line_of c.in-Run.is)).form
@@ -39,13 +40,15 @@ pub returns-in_ok-matches-in-Run-clause-form : goal.returns-in_ok-matches-in-Run
 returns-in_ok-matches-in-Run-clause-form c =
     let words = map string_bytes c.args.words.now in
     let asked : AsksBy line.Run c.args.command words = Asks-by words c.args.command line.Run c.requires (ap line_of c.in-Run.is) in
-    asked.form.is ∙ ap Some (sym (c.run_job.ensures asked.form.request (Asks-of line.Run words c.in_ok-matches-in-Run.matches asked.form c.in_ok-matches-in-Run.ensures) (asked.command_is ∙ c.in-Run.is)))
+    asked.form.is ∙ ap Some (sym (c.run_job.ensures asked.form.request (Asks-of line.Run words c.in_ok-matches-in-Run.matches asked.form c.in_ok-matches-in-Run.ensures)
+    (asked.command_is ∙ c.in-Run.is)))
 
 pub returns-in_ok-matches-in-Run-clause-limits : goal.returns-in_ok-matches-in-Run-clause-limits
 returns-in_ok-matches-in-Run-clause-limits c =
     let words = map string_bytes c.args.words.now in
     let asked : AsksBy line.Run c.args.command words = Asks-by words c.args.command line.Run c.requires (ap line_of c.in-Run.is) in
-    subst IsWithinLimits (sym (c.run_job.ensures asked.form.request (Asks-of line.Run words c.in_ok-matches-in-Run.matches asked.form c.in_ok-matches-in-Run.ensures) (asked.command_is ∙ c.in-Run.is))) (IsWithinLimits-request words asked.form.request asked.form.is)
+    subst IsWithinLimits (sym (c.run_job.ensures asked.form.request (Asks-of line.Run words c.in_ok-matches-in-Run.matches asked.form c.in_ok-matches-in-Run.ensures)
+    (asked.command_is ∙ c.in-Run.is))) (IsWithinLimits-request words asked.form.request asked.form.is)
 
 pub matches_of-requires-in-Check : goal.matches_of-requires-in-Check
 matches_of-requires-in-Check c = (Asks-by (map string_bytes c.args.words.now) c.args.command line.Check c.requires (ap line_of c.in-Check.is)).form

@@ -8,4 +8,5 @@ returns-clause-ok c =
     let numbers : c.push_reserved.new.self.items ≡ s.numbers.items ++ c.kept_line-named.result.0 ∷ [] = search rules in
     let named : c.push_reserved-2.new.self.items ≡ s.named.items ++ c.kept_line-named.result.1 ∷ [] = search rules in
     rw (numbers, named)
-    (lines_kept-push s.numbers.items s.named.items c.self.invariant c.kept_line-named.result.0 c.kept_line-named.result.1 ∙ ap₂ (λ lines line. lines ++ line ∷ []) c.self.view_is c.kept_line-named.ensures)
+    (lines_kept-push s.numbers.items s.named.items c.self.invariant c.kept_line-named.result.0 c.kept_line-named.result.1
+    ∙ ap₂ (λ lines line. lines ++ line ∷ []) c.self.view_is c.kept_line-named.ensures)

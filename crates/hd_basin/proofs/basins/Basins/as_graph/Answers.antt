@@ -15,7 +15,8 @@ new-requires g c =
     let lows : c.in_ok-lows.lows ≡ flat_map lows_in c.args.self.now.parts = search rules in
     let passes : c.in_ok-passes.passes ≡ flat_map (passes_in g.S.Side.NAME c.args.self.now.parts) c.args.self.now.parts = search rules in
     subst (λ (ls : List Low). IsGraph (below_by g.S.Side.NAME) ls c.in_ok-passes.passes) (sym lows)
-    (subst (λ (ps : List Pass). IsGraph (below_by g.S.Side.NAME) (flat_map lows_in c.args.self.now.parts) ps) (sym passes) (pool-is_graph g.S.Side.NAME c.args.self.now (subst IsSound c.self.view_is c.self.invariant) c.requires))
+    (subst (λ (ps : List Pass). IsGraph (below_by g.S.Side.NAME) (flat_map lows_in c.args.self.now.parts) ps) (sym passes)
+    (pool-is_graph g.S.Side.NAME c.args.self.now (subst IsSound c.self.view_is c.self.invariant) c.requires))
 
 pub returns : goal.returns
 returns g c =

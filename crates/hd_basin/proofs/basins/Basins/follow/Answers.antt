@@ -38,7 +38,8 @@ returns-then-number-clause-way g c =
     let w = c.walk.invariant in
     let pits = c.args.roots.now.pits in
     let read = (read-here c.args.self.now.parts c.args.roots.now c.requires.known.firsts c.requires.known.whole c.roots.inside.firsts.items c.roots.inside.numbers.items
-    (ap (λ (r : Rooted). r.firsts) c.roots.view_is) (ap (λ (r : Rooted). r.numbers) c.roots.view_is) c.walk.here c.walk.invariant.node c.walk.invariant.at c.index.result.now c.index-number.result.now c.index.ensures c.index-number.ensures).1 in
+    (ap (λ (r : Rooted). r.firsts) c.roots.view_is) (ap (λ (r : Rooted). r.numbers) c.roots.view_is) c.walk.here c.walk.invariant.node c.walk.invariant.at c.index.result.now
+    c.index-number.result.now c.index.ensures c.index-number.ensures).1 in
     let here : IsPitNumber side pool pits w.node c.index-number.result.now =
     subst (IsPitNumber side pool pits w.node) (sym read)
     (c.requires.known.each (place_of_node pool.parts c.walk.here) w.node (spot-place pool.parts c.walk.here w.node w.at) (λ e. c.if-number.true (read ∙ e))) in
@@ -49,7 +50,8 @@ onward-here-requires-clause-flows g c = λ n at ends. (
     let parts = c.args.self.now.parts in
     c.requires.known.ends (place_of_node parts c.walk.here) n (spot-place parts c.walk.here n at) ends
     (sym (read-here c.args.self.now.parts c.args.roots.now c.requires.known.firsts c.requires.known.whole c.roots.inside.firsts.items c.roots.inside.numbers.items
-    (ap (λ (r : Rooted). r.firsts) c.roots.view_is) (ap (λ (r : Rooted). r.numbers) c.roots.view_is) c.walk.here c.walk.invariant.node c.walk.invariant.at c.index.result.now c.index-number.result.now c.index.ensures c.index-number.ensures).1 ∙ c.if-number.false))
+    (ap (λ (r : Rooted). r.firsts) c.roots.view_is) (ap (λ (r : Rooted). r.numbers) c.roots.view_is) c.walk.here c.walk.invariant.node c.walk.invariant.at c.index.result.now
+    c.index-number.result.now c.index.ensures c.index-number.ensures).1 ∙ c.if-number.false))
 
 pub walk-smaller : goal.walk-smaller
 walk-smaller g c =
@@ -70,6 +72,7 @@ walk-preserved g c =
     let way : c.push.new.self.items ≡ c.walk.way.items ++ place_of_node pool.parts c.walk.here ∷ [] =
     c.in_ok-push.ensures.items ∙ ap (λ k. c.walk.way.items ++ k ∷ [])
     (read-here c.args.self.now.parts c.args.roots.now c.requires.known.firsts c.requires.known.whole c.roots.inside.firsts.items c.roots.inside.numbers.items
-    (ap (λ (r : Rooted). r.firsts) c.roots.view_is) (ap (λ (r : Rooted). r.numbers) c.roots.view_is) c.walk.here c.walk.invariant.node c.walk.invariant.at c.index.result.now c.index-number.result.now c.index.ensures c.index-number.ensures).0 in
+    (ap (λ (r : Rooted). r.firsts) c.roots.view_is) (ap (λ (r : Rooted). r.numbers) c.roots.view_is) c.walk.here c.walk.invariant.node c.walk.invariant.at c.index.result.now
+    c.index-number.result.now c.index.ensures c.index-number.ensures).0 in
     subst (IsOnWay side pool c.args.roots.now.pits c.args.spot c.onward-here.result) (sym way)
     (way-next side pool w.node on.spot.0 c.walk.here c.onward-here.result c.requires.map w.at on on.spot.1 c.args.roots.now.pits c.args.spot c.walk.way.items w refl)

@@ -56,7 +56,8 @@ bounds-pits-pit g c =
     let s : Spot = record { tile = c.args.tile; number = c.numbers.number } in
     let n = named-of parts c.args.tile c.numbers.number part at (omega (arith, count, less)) in
     let read = read-here parts c.args.roots.now c.requires.roots.firsts c.requires.roots.whole c.roots.inside.firsts.items c.roots.inside.numbers.items
-    (ap (λ (r : Rooted). r.firsts) c.roots.view_is) (ap (λ (r : Rooted). r.numbers) c.roots.view_is) s n.0 n.1 c.index-first.result.now c.index-pit.result.now c.index-first.ensures c.index-pit.ensures in
+    (ap (λ (r : Rooted). r.firsts) c.roots.view_is) (ap (λ (r : Rooted). r.numbers) c.roots.view_is) s n.0 n.1 c.index-first.result.now c.index-pit.result.now c.index-first.ensures
+    c.index-pit.ensures in
     let k = (c.requires.roots.numbers (place_of_node parts s) n.0 (spot-place parts s n.0 n.1) has.map has.whole has.pool_of).inside in
     let long : length c.pits-pits.result.now ≡ length c.args.roots.now.pits = ap length c.pits-pits.ensures in
     let number = read.1 in
@@ -71,7 +72,8 @@ add_basin-requires-clause-inside g c =
     let n = c.node.result in
     let named : node_named parts s ≡ Some n = ap (λ (o : Option Part). node_in o c.numbers.number) at ∙ c.node.ensures in
     let read = read-here parts c.args.roots.now c.requires.roots.firsts c.requires.roots.whole c.roots.inside.firsts.items c.roots.inside.numbers.items
-    (ap (λ (r : Rooted). r.firsts) c.roots.view_is) (ap (λ (r : Rooted). r.numbers) c.roots.view_is) s n named c.index-first.result.now c.index-pit.result.now c.index-first.ensures c.index-pit.ensures in
+    (ap (λ (r : Rooted). r.firsts) c.roots.view_is) (ap (λ (r : Rooted). r.numbers) c.roots.view_is) s n named c.index-first.result.now c.index-pit.result.now c.index-first.ensures
+    c.index-pit.ensures in
     let has = c.requires.map in
     let k = (c.requires.roots.numbers (place_of_node parts s) n (spot-place parts s n named) has.map has.whole has.pool_of).inside in
     let whole = (c.numbers.invariant has.map has.whole has.pool_of).whole in
@@ -87,7 +89,8 @@ add_basin-requires-clause-few g c =
     let n = c.node.result in
     let named : node_named parts s ≡ Some n = ap (λ (o : Option Part). node_in o c.numbers.number) at ∙ c.node.ensures in
     let read = read-here parts c.args.roots.now c.requires.roots.firsts c.requires.roots.whole c.roots.inside.firsts.items c.roots.inside.numbers.items
-    (ap (λ (r : Rooted). r.firsts) c.roots.view_is) (ap (λ (r : Rooted). r.numbers) c.roots.view_is) s n named c.index-first.result.now c.index-pit.result.now c.index-first.ensures c.index-pit.ensures in
+    (ap (λ (r : Rooted). r.firsts) c.roots.view_is) (ap (λ (r : Rooted). r.numbers) c.roots.view_is) s n named c.index-first.result.now c.index-pit.result.now c.index-first.ensures
+    c.index-pit.ensures in
     let has = c.requires.map in
     let k = (c.requires.roots.numbers (place_of_node parts s) n (spot-place parts s n named) has.map has.whole has.pool_of).inside in
     λ e is. gathered-few g.S.Side.NAME c.args.self.now c.args.roots.now c.requires.roots has.map has.whole has.pool_of (place_of_node parts s) n (spot-place parts s n named)
@@ -102,7 +105,8 @@ numbers-preserved g c =
     let n = c.node.result in
     let named : node_named parts s ≡ Some n = ap (λ (o : Option Part). node_in o c.numbers.number) at ∙ c.node.ensures in
     let read = read-here parts c.args.roots.now c.requires.roots.firsts c.requires.roots.whole c.roots.inside.firsts.items c.roots.inside.numbers.items
-    (ap (λ (r : Rooted). r.firsts) c.roots.view_is) (ap (λ (r : Rooted). r.numbers) c.roots.view_is) s n named c.index-first.result.now c.index-pit.result.now c.index-first.ensures c.index-pit.ensures in
+    (ap (λ (r : Rooted). r.firsts) c.roots.view_is) (ap (λ (r : Rooted). r.numbers) c.roots.view_is) s n named c.index-first.result.now c.index-pit.result.now c.index-first.ensures
+    c.index-pit.ensures in
     let next : place_of_node parts s + 1 ≡ nodes_before parts c.args.tile + (c.numbers.number + 1) = omega arith in
     λ m whole of. subst (λ k. AreGathered m g.S.Side.NAME c.args.self.now.side c.args.roots.now.pits (take k (all_nodes parts)) c.add_basin.new.extents.items) next
     (gathered-step g.S.Side.NAME c.args.self.now c.args.roots.now c.requires.roots m whole of (place_of_node parts s) n (spot-place parts s n named)

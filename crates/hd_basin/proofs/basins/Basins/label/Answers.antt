@@ -8,7 +8,8 @@ pub walk-init : goal.walk-init
 walk-init g c = way-start g.S.Side.NAME c.args.self.now c.args.at c.in_ok-node.node c.requires.in_grid (sym c.in_ok-node.ensures)
 
 pub returns-in_default : goal.returns-in_default
-returns-in_default g c = way-end g.S.Side.NAME c.args.self.now c.args.at c.position_of.result c.walk.node c.walk.invariant c.in_default.is (let e : c.size.result ≡ c.args.self.now.size = search rules in c.position_of.ensures.value ∙ ap (λ (s : Size). position_at s c.walk.node.low.index) e)
+returns-in_default g c = way-end g.S.Side.NAME c.args.self.now c.args.at c.position_of.result c.walk.node c.walk.invariant c.in_default.is
+    (let e : c.size.result ≡ c.args.self.now.size = search rules in c.position_of.ensures.value ∙ ap (λ (s : Size). position_at s c.walk.node.low.index) e)
 
 pub node_at-requires-in-walk : goal.node_at-requires-in-walk
 node_at-requires-in-walk g c = way-inside g.S.Side.NAME c.args.self.now c.args.at c.walk.node c.in-Some.onward c.walk.invariant c.in-Some.is c.requires.pool

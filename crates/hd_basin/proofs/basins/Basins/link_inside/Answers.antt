@@ -96,9 +96,11 @@ joins-preserved g c = λ named is. (
     (subst (λ (js : List Join). Contains js j) c.joins-joins.ensures (Contains-get_or c.joins-joins.result.now c.joins.join-index none c.joins-test.true)) in
     let p : Pass = pass_named part.nodes j in
     let a : LiesIn side pool pits p.a c.index-a.result.now = lies-in side pool c.args.roots.now c.requires.roots c.roots.inside.firsts.items c.roots.inside.numbers.items
-    (ap (λ (r : Rooted). r.firsts) c.roots.view_is) (ap (λ (r : Rooted). r.numbers) c.roots.view_is) c.args.tile j.a part at below.0 c.index-first.result.now c.index-a.result.now c.index-first.ensures c.index-a.ensures in
+    (ap (λ (r : Rooted). r.firsts) c.roots.view_is) (ap (λ (r : Rooted). r.numbers) c.roots.view_is) c.args.tile j.a part at below.0 c.index-first.result.now c.index-a.result.now
+    c.index-first.ensures c.index-a.ensures in
     let b : LiesIn side pool pits p.b c.index-b.result.now = lies-in side pool c.args.roots.now c.requires.roots c.roots.inside.firsts.items c.roots.inside.numbers.items
-    (ap (λ (r : Rooted). r.firsts) c.roots.view_is) (ap (λ (r : Rooted). r.numbers) c.roots.view_is) c.args.tile j.b part at below.1 c.index-first.result.now c.index-b.result.now c.index-first.ensures c.index-b.ensures in
+    (ap (λ (r : Rooted). r.firsts) c.roots.view_is) (ap (λ (r : Rooted). r.numbers) c.roots.view_is) c.args.tile j.b part at below.1 c.index-first.result.now c.index-b.result.now
+    c.index-first.ensures c.index-b.ensures in
     let one : AddsLinks side pool pits (in_order side p ∷ []) c.joins.links.items c.push_link.new.links.items =
     subst (AddsLinks side pool pits (in_order side p ∷ []) c.joins.links.items) (sym c.in_ok-push_link.ensures)
     (adds-one side pool pits (c.requires.roots.pits has.map has.whole has.pool_of).in_order has p c.index-a.result.now c.index-b.result.now c.joins.links.items a b) in

@@ -19,4 +19,5 @@ returns-in_ok-push_link g c =
     ap (λ (p : Pool). was_seen_with (slice_get p.parts seam.with) seam.stamp) (sym c.self.view_is) ∙ sym c.was_seen_with.ensures ∙ c.if-was_seen_with.true in
     subst (λ (v : Bool). AddsLinks side pool pits (if v then (in_order side seam.pass ∷ []) else []) old c.push_link.new.links.items) (sym seen)
     (subst (AddsLinks side pool pits (in_order side seam.pass ∷ []) old) (sym c.in_ok-push_link.ensures)
-    (adds-one side pool pits (c.requires.roots.pits has.map has.whole has.pool_of).in_order has seam.pass c.pit_number-a.result c.pit_number-b.result old c.pit_number-a.ensures c.pit_number-b.ensures))
+    (adds-one side pool pits (c.requires.roots.pits has.map has.whole has.pool_of).in_order has seam.pass c.pit_number-a.result c.pit_number-b.result old c.pit_number-a.ensures
+    c.pit_number-b.ensures))

@@ -88,6 +88,7 @@ returns g c = λ m whole of. (
     let here = at-sink c.args.self.now r.0 r.1 c.args.sink c.size.result c.position_of.result (sound.keyed r.0 r.1 r.2) r.3 size c.position_of.ensures.value in
     let named = c.in-Some.ensures.1 ∙ here in
     let read = read-here parts c.args.roots.now c.requires.roots.firsts c.requires.roots.whole c.roots.inside.firsts.items c.roots.inside.numbers.items
-    (ap (λ (x : Rooted). x.firsts) c.roots.view_is) (ap (λ (x : Rooted). x.numbers) c.roots.view_is) c.in-Some.spot r.1 named c.index.result.now c.index-in-Some.result.now c.index.ensures c.index-in-Some.ensures in
+    (ap (λ (x : Rooted). x.firsts) c.roots.view_is) (ap (λ (x : Rooted). x.numbers) c.roots.view_is) c.in-Some.spot r.1 named c.index.result.now c.index-in-Some.result.now
+    c.index.ensures c.index-in-Some.ensures in
     subst (λ (x : Rank). IsNumberOf m g.S.Side.NAME pits x c.index-in-Some.result.now) r.3
     (subst (IsNumberOf m g.S.Side.NAME pits r.1.low) (sym read.1) (c.requires.roots.numbers (place_of_node parts c.in-Some.spot) r.1 (spot-place parts c.in-Some.spot r.1 named) m whole of)))

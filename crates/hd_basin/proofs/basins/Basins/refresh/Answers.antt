@@ -35,7 +35,8 @@ refresh_tile-requires-clause-leave g c = λ p beside. c.requires.leave p (record
 
 pub returns-in_err-refresh_tile-clause-kept : goal.returns-in_err-refresh_tile-clause-kept
 returns-in_err-refresh_tile-clause-kept g c =
-    let kept : KeepsSeen (g.T.Looked.stamps c.args.tiles.now) c.args.self.now c.refresh_tile.new.self = keeps-onward (g.T.Looked.stamps c.args.tiles.now) c.args.self.now c.each.self c.refresh_tile.new.self c.each.invariant.kept c.refresh_tile.ensures.kept in
+    let kept : KeepsSeen (g.T.Looked.stamps c.args.tiles.now) c.args.self.now c.refresh_tile.new.self = keeps-onward
+    (g.T.Looked.stamps c.args.tiles.now) c.args.self.now c.each.self c.refresh_tile.new.self c.each.invariant.kept c.refresh_tile.ensures.kept in
     on_err c.from_residual.result kept
 
 pub each-preserved : goal.each-preserved
@@ -44,8 +45,10 @@ each-preserved g c =
     let i = c.each.invariant in
     let kept = c.in_ok-refresh_tile.ensures.kept in
     let new : Pool = c.refresh_tile.new.self in
-    let paid : c.refresh_tile.new.looks + stale_count stamps new.parts * ((c.args.self.now.side + 2) * (c.args.self.now.side + 2)) ≤ c.each.looks + stale_count stamps c.each.self.parts * ((c.args.self.now.side + 2) * (c.args.self.now.side + 2)) =
-    subst (λ (k : ℕ). c.refresh_tile.new.looks + stale_count stamps new.parts * ((k + 2) * (k + 2)) ≤ c.each.looks + stale_count stamps c.each.self.parts * ((k + 2) * (k + 2))) i.side c.in_ok-refresh_tile.ensures.looks in
+    let paid : c.refresh_tile.new.looks + stale_count stamps new.parts * ((c.args.self.now.side + 2) * (c.args.self.now.side + 2)) ≤ c.each.looks
+    + stale_count stamps c.each.self.parts * ((c.args.self.now.side + 2) * (c.args.self.now.side + 2)) =
+    subst (λ (k : ℕ). c.refresh_tile.new.looks + stale_count stamps new.parts * ((k + 2) * (k + 2)) ≤ c.each.looks + stale_count stamps c.each.self.parts * ((k + 2) * (k + 2)))
+    i.side c.in_ok-refresh_tile.ensures.looks in
     let before = i.looks in
     record {
       sound = c.in_ok-refresh_tile.ensures.sound;
@@ -85,7 +88,8 @@ returns-clause-seen g c = λ tile stamp now. (
     let m : Map = g.T.Looked.map c.args.tiles.now in
     let size : b.tiling.size ≡ m.size = ap (λ (p : Pool). p.size) view ∙ c.requires.in_step.size in
     let side : b.tiling.side ≡ g.T.Looked.tile_side c.args.tiles.now = ap (λ (p : Pool). p.side) view ∙ c.requires.side in
-    let count : c.count-tile-end.result ≡ length (g.T.Looked.stamps c.args.tiles.now) = c.count-tile-end.ensures ∙ ap (λ (s : Size). tile_count s b.tiling.side) size ∙ ap (tile_count m.size) side ∙ sym looked.tiles in
+    let count : c.count-tile-end.result ≡ length (g.T.Looked.stamps c.args.tiles.now) = c.count-tile-end.ensures ∙ ap (λ (s : Size). tile_count s b.tiling.side) size
+    ∙ ap (tile_count m.size) side ∙ sym looked.tiles in
     let within = slice_get_within (g.T.Looked.stamps c.args.tiles.now) tile stamp now in
     let done = c.each-test.false in
     i.fresh tile (omega (arith, within, count, done)))

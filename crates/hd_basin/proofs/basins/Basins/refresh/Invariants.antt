@@ -11,5 +11,6 @@ invariant-each g l = record {
   fresh : (tile : ℕ) → tile < l.tile → IsFresh (g.T.Looked.stamps l.tiles) l.self.parts tile;
   side : l.self.side ≡ l.fn.self.side;
   whole : length l.self.parts ≡ length l.fn.self.parts;
-  looks : l.looks + stale_count (g.T.Looked.stamps l.tiles) l.self.parts * ((l.fn.self.side + 2) * (l.fn.self.side + 2)) ≤ l.fn.looks + stale_count (g.T.Looked.stamps l.tiles) l.fn.self.parts * ((l.fn.self.side + 2) * (l.fn.self.side + 2));
+  looks : l.looks + stale_count (g.T.Looked.stamps l.tiles) l.self.parts * ((l.fn.self.side + 2) * (l.fn.self.side + 2)) ≤ l.fn.looks
+      + stale_count (g.T.Looked.stamps l.tiles) l.fn.self.parts * ((l.fn.self.side + 2) * (l.fn.self.side + 2));
 }

@@ -31,7 +31,8 @@ add_point-requires g c =
     let home : c.args.home < length numbers = c.requires.inside in
     let at : slice_get numbers c.args.home ≡ Some c.index-number.result.now = slice_get_read numbers (length numbers) c.args.home c.index-number.result.now refl home c.index-number.ensures in
     let below = c.requires.known c.args.home c.index-number.result.now at c.if-number.false in
-    let node : slice_get nodes c.index-number.result.now ≡ Some c.index_mut-2.result.now = slice_get_read nodes (length nodes) c.index-number.result.now c.index_mut-2.result.now refl below c.index_mut-2.ensures.value in
+    let node : slice_get nodes c.index-number.result.now ≡ Some c.index_mut-2.result.now = slice_get_read nodes
+    (length nodes) c.index-number.result.now c.index_mut-2.result.now refl below c.index_mut-2.ensures.value in
     let small = c.requires.small c.index-number.result.now c.index_mut-2.result.now node in
     omega (arith, small)
 
@@ -41,10 +42,12 @@ returns-then-number-clause-counts g c =
     let t : ℕ = c.args.plot.tiling.side in
     let numbers : List ℕ = c.args.self.now.numbers.items in
     let nodes : List Node = c.args.self.now.nodes.items in
-    let home_is : c.args.home ≡ place_in_tile m.size t (at_place c.args.plot.area c.args.home) = c.requires.home ∙ ap (λ (s : Size). place_in_tile s t (at_place c.args.plot.area c.args.home)) c.requires.size in
+    let home_is : c.args.home ≡ place_in_tile m.size t (at_place c.args.plot.area c.args.home) = c.requires.home
+    ∙ ap (λ (s : Size). place_in_tile s t (at_place c.args.plot.area c.args.home)) c.requires.size in
     let home : c.args.home < length numbers = c.requires.inside in
     let at : slice_get numbers c.args.home ≡ Some c.index-number.result.now = slice_get_read numbers (length numbers) c.args.home c.index-number.result.now refl home c.index-number.ensures in
-    let free : slice_get numbers (place_in_tile m.size t (at_place c.args.plot.area c.args.home)) ≡ Some no_node = ap (slice_get numbers) (sym home_is) ∙ at ∙ ap (λ (k : ℕ). Some k) c.if-number.true in
+    let free : slice_get numbers (place_in_tile m.size t (at_place c.args.plot.area c.args.home)) ≡ Some no_node = ap (slice_get numbers) (sym home_is) ∙ at
+    ∙ ap (λ (k : ℕ). Some k) c.if-number.true in
     let pushed : c.push.new.self.items ≡ nodes ++ c.first_node-node.result ∷ [] = c.in_ok-push.ensures.items in
     let count : c.len-number.result ≡ length nodes = search rules in
     let own-rank : c.rank_in-point.result ≡ rank m c.args.at = low-own m g.S.Side.NAME (g.met.G.Heights.whole c.args.grid.now) c.args.at c.rank_in-point.result c.rank_in-point.ensures c.requires.at in
@@ -74,13 +77,15 @@ returns-clause-counts g c =
     let numbers : List ℕ = c.args.self.now.numbers.items in
     let nodes : List Node = c.args.self.now.nodes.items in
     let label : ℕ = c.index-number.result.now in
-    let home_is : c.args.home ≡ place_in_tile m.size t (at_place c.args.plot.area c.args.home) = c.requires.home ∙ ap (λ (s : Size). place_in_tile s t (at_place c.args.plot.area c.args.home)) c.requires.size in
+    let home_is : c.args.home ≡ place_in_tile m.size t (at_place c.args.plot.area c.args.home) = c.requires.home
+    ∙ ap (λ (s : Size). place_in_tile s t (at_place c.args.plot.area c.args.home)) c.requires.size in
     let home : c.args.home < length numbers = c.requires.inside in
     let at : slice_get numbers c.args.home ≡ Some label = slice_get_read numbers (length numbers) c.args.home label refl home c.index-number.ensures in
     let below = c.requires.known c.args.home label at c.if-number.false in
     let node : slice_get nodes label ≡ Some c.index_mut-2.result.now = slice_get_read nodes (length nodes) label c.index_mut-2.result.now refl below c.index_mut-2.ensures.value in
     let own-rank : c.rank_in-point.result ≡ rank m c.args.at = low-own m g.S.Side.NAME (g.met.G.Heights.whole c.args.grid.now) c.args.at c.rank_in-point.result c.rank_in-point.ensures c.requires.at in
-    let adds : AddsPoint (rank m c.args.at).height c.is_edge-edge.result c.index_mut-2.result.now c.add_point.new.node = subst (λ (r : Rank). AddsPoint r.height c.is_edge-edge.result c.index_mut-2.result.now c.add_point.new.node) own-rank c.add_point.ensures in
+    let adds : AddsPoint (rank m c.args.at).height c.is_edge-edge.result c.index_mut-2.result.now c.add_point.new.node = subst
+    (λ (r : Rank). AddsPoint r.height c.is_edge-edge.result c.index_mut-2.result.now c.add_point.new.node) own-rank c.add_point.ensures in
     inr (record {
       old = c.index_mut-2.result.now;
       new = c.add_point.new.node;

@@ -29,7 +29,8 @@ count-requires-clause-sink g c =
     let t : ℕ = c.args.plot.tiling.side in
     let f : Frame = c.args.plot.area in
     let some : 1 ≤ t = (let least = c.args.plot.tiling.tile_side.least in omega (arith, least)) in
-    c.requires.sunk.present (sunk-here m g.S.Side.NAME t c.args.plot.tile f some c.requires.area (place_of_frame f c.args.at) (frame_step f c.args.at c.requires.at).0 c.args.sink c.requires.sunk c.if-sink-eq-NO_LINK.false)
+    c.requires.sunk.present (sunk-here m g.S.Side.NAME t c.args.plot.tile f some c.requires.area (place_of_frame f c.args.at)
+    (frame_step f c.args.at c.requires.at).0 c.args.sink c.requires.sunk c.if-sink-eq-NO_LINK.false)
 
 pub count-requires-clause-sink_in : goal.count-requires-clause-sink_in
 count-requires-clause-sink_in g c =
@@ -37,7 +38,8 @@ count-requires-clause-sink_in g c =
     let t : ℕ = c.args.plot.tiling.side in
     let f : Frame = c.args.plot.area in
     let some : 1 ≤ t = (let least = c.args.plot.tiling.tile_side.least in omega (arith, least)) in
-    c.requires.sunk.inside (sunk-here m g.S.Side.NAME t c.args.plot.tile f some c.requires.area (place_of_frame f c.args.at) (frame_step f c.args.at c.requires.at).0 c.args.sink c.requires.sunk c.if-sink-eq-NO_LINK.false)
+    c.requires.sunk.inside (sunk-here m g.S.Side.NAME t c.args.plot.tile f some c.requires.area (place_of_frame f c.args.at)
+    (frame_step f c.args.at c.requires.at).0 c.args.sink c.requires.sunk c.if-sink-eq-NO_LINK.false)
 
 pub count-requires-clause-home : goal.count-requires-clause-home
 count-requires-clause-home g c =
@@ -45,7 +47,8 @@ count-requires-clause-home g c =
     let t : ℕ = c.args.plot.tiling.side in
     let f : Frame = c.args.plot.area in
     let some : 1 ≤ t = (let least = c.args.plot.tiling.tile_side.least in omega (arith, least)) in
-    let here = sunk-here m g.S.Side.NAME t c.args.plot.tile f some c.requires.area (place_of_frame f c.args.at) (frame_step f c.args.at c.requires.at).0 c.args.sink c.requires.sunk c.if-sink-eq-NO_LINK.false in
+    let here = sunk-here m g.S.Side.NAME t c.args.plot.tile f some c.requires.area (place_of_frame f c.args.at)
+    (frame_step f c.args.at c.requires.at).0 c.args.sink c.requires.sunk c.if-sink-eq-NO_LINK.false in
     sym (ap (λ (s : Size). place_in_tile s t (at_place f c.args.sink)) c.requires.size ∙ sink-home m t c.args.plot.tile f some c.requires.area c.args.sink (c.requires.sunk.inside here))
 
 pub count-requires-clause-inside : goal.count-requires-clause-inside
@@ -54,7 +57,8 @@ count-requires-clause-inside g c =
     let t : ℕ = c.args.plot.tiling.side in
     let f : Frame = c.args.plot.area in
     let some : 1 ≤ t = (let least = c.args.plot.tiling.tile_side.least in omega (arith, least)) in
-    let here = sunk-here m g.S.Side.NAME t c.args.plot.tile f some c.requires.area (place_of_frame f c.args.at) (frame_step f c.args.at c.requires.at).0 c.args.sink c.requires.sunk c.if-sink-eq-NO_LINK.false in
+    let here = sunk-here m g.S.Side.NAME t c.args.plot.tile f some c.requires.area (place_of_frame f c.args.at)
+    (frame_step f c.args.at c.requires.at).0 c.args.sink c.requires.sunk c.if-sink-eq-NO_LINK.false in
     let within = c.requires.sunk.inside here in
     let count = c.requires.before.numbers_count in
     omega (arith, within, count)
@@ -78,7 +82,8 @@ count-requires-clause-known g c =
     let k : ℕ = place_of_frame f c.args.at in
     let below : k < f.columns * f.rows = (frame_step f c.args.at c.requires.at).0 in
     let here = sunk-here m g.S.Side.NAME t c.args.plot.tile f some c.requires.area k below c.args.sink c.requires.sunk c.if-sink-eq-NO_LINK.false in
-    numbers-known m g.S.Side.NAME t c.args.plot.tile f k some c.requires.area below (omega (arith, small)) c.args.self.now.nodes.items c.args.self.now.numbers.items c.args.self.now.labels.items c.requires.before (at_place f c.args.sink)
+    numbers-known m g.S.Side.NAME t c.args.plot.tile f k some c.requires.area below
+    (omega (arith, small)) c.args.self.now.nodes.items c.args.self.now.numbers.items c.args.self.now.labels.items c.requires.before (at_place f c.args.sink)
     here (c.requires.sunk.present here) (c.requires.sunk.sink here)
 
 pub count-requires-clause-small : goal.count-requires-clause-small
@@ -101,7 +106,8 @@ returns-then-sink-eq-NO_LINK g c =
     let absent : Present m (at_place f k) → ⊥ = sunk-absent m g.S.Side.NAME t f (omega (arith, small)) k c.args.sink c.requires.sunk c.if-sink-eq-NO_LINK.true in
     let pushed : c.push.new.self.items ≡ c.args.self.now.labels.items ++ no_node ∷ [] = c.in_ok-push.ensures.items in
     subst (λ (ls : List ℕ). IsGathered m g.S.Side.NAME t c.args.plot.tile f (k + 1) c.args.self.now.nodes.items c.args.self.now.numbers.items ls) (sym pushed)
-    (gathered-absent m g.S.Side.NAME t c.args.plot.tile f k (let least = side.least in omega (arith, least)) c.requires.area below (omega (arith, small)) c.args.self.now.nodes.items c.args.self.now.numbers.items c.args.self.now.labels.items c.requires.before absent)
+    (gathered-absent m g.S.Side.NAME t c.args.plot.tile f k (let least = side.least in omega (arith, least)) c.requires.area below
+    (omega (arith, small)) c.args.self.now.nodes.items c.args.self.now.numbers.items c.args.self.now.labels.items c.requires.before absent)
 
 pub returns : goal.returns
 returns g c =
@@ -122,10 +128,13 @@ returns g c =
     let of = c.requires.sunk.sink here in
     let q : Pos = at_place f c.args.sink in
     let counts : Counts m g.S.Side.NAME t c.args.plot.tile (at_place f k) q old.nodes.items new.nodes.items old.numbers.items new.numbers.items c.in_ok-label.label =
-    subst (λ (p : Pos). Counts m g.S.Side.NAME t c.args.plot.tile p q old.nodes.items new.nodes.items old.numbers.items new.numbers.items c.in_ok-label.label) (sym step.1) c.in_ok-label.ensures.counts in
+    subst (λ (p : Pos). Counts m g.S.Side.NAME t c.args.plot.tile p q old.nodes.items new.nodes.items old.numbers.items new.numbers.items c.in_ok-label.label)
+    (sym step.1) c.in_ok-label.ensures.counts in
     let pushed : c.push-2.new.self.items ≡ new.labels.items ++ c.in_ok-label.label ∷ [] = c.in_ok-push-2.ensures.items in
     let labels : c.push-2.new.self.items ≡ old.labels.items ++ c.in_ok-label.label ∷ [] = pushed ∙ ap (λ (ls : List ℕ). ls ++ c.in_ok-label.label ∷ []) c.count.ensures.labels in
     subst (λ (ls : List ℕ). IsGathered m g.S.Side.NAME t c.args.plot.tile f (k + 1) new.nodes.items new.numbers.items ls) (sym labels) (elim counts [
-      | inl starts ↦ gathered-starts m g.S.Side.NAME t c.args.plot.tile f k some c.requires.area below bound old.nodes.items old.numbers.items old.labels.items c.requires.before q here there of new.nodes.items new.numbers.items c.in_ok-label.label starts
-      | inr adds ↦ gathered-adds m g.S.Side.NAME t c.args.plot.tile f k some c.requires.area below bound old.nodes.items old.numbers.items old.labels.items c.requires.before q here there of new.nodes.items new.numbers.items c.in_ok-label.label adds
+      | inl starts ↦ gathered-starts m g.S.Side.NAME t c.args.plot.tile f k some c.requires.area below bound old.nodes.items old.numbers.items old.labels.items c.requires.before q
+          here there of new.nodes.items new.numbers.items c.in_ok-label.label starts
+      | inr adds ↦ gathered-adds m g.S.Side.NAME t c.args.plot.tile f k some c.requires.area below bound old.nodes.items old.numbers.items old.labels.items c.requires.before q here
+          there of new.nodes.items new.numbers.items c.in_ok-label.label adds
     ])

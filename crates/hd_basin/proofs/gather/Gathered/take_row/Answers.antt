@@ -14,20 +14,23 @@ take-requires-clause-sunk g c =
     let f : Frame = c.args.plot.area in
     let k : ℕ = c.args.row * f.columns + c.loop-column.column in
     let below = place-below f c.args.row c.loop-column.column c.requires.row c.loop-column-test.true in
-    subst (λ (n : ℕ). IsSunk (g.G.Heights.map c.args.grid.now) g.S.Side.NAME c.args.plot.tiling.side f n (slice_index c.args.sinks.now k)) (sym (point_in-place f c.args.row c.loop-column.column)) (c.requires.sunk.each k below)
+    subst (λ (n : ℕ). IsSunk (g.G.Heights.map c.args.grid.now) g.S.Side.NAME c.args.plot.tiling.side f n (slice_index c.args.sinks.now k))
+    (sym (point_in-place f c.args.row c.loop-column.column)) (c.requires.sunk.each k below)
 
 pub take-requires-clause-before : goal.take-requires-clause-before
 take-requires-clause-before g c =
     let m = g.G.Heights.map c.args.grid.now in
     let all = c.loop-column.self in
-    subst (λ (k : ℕ). IsGathered m g.S.Side.NAME c.args.plot.tiling.side c.args.plot.tile c.args.plot.area k all.nodes.items all.numbers.items all.labels.items) (sym (point_in-place c.args.plot.area c.args.row c.loop-column.column)) c.loop-column.invariant
+    subst (λ (k : ℕ). IsGathered m g.S.Side.NAME c.args.plot.tiling.side c.args.plot.tile c.args.plot.area k all.nodes.items all.numbers.items all.labels.items)
+    (sym (point_in-place c.args.plot.area c.args.row c.loop-column.column)) c.loop-column.invariant
 
 pub loop-column-preserved : goal.loop-column-preserved
 loop-column-preserved g c =
     let m = g.G.Heights.map c.args.grid.now in
     let f : Frame = c.args.plot.area in
     let all = c.take.new.self in
-    let next : place_of_frame f (point_in f c.args.row c.loop-column.column) + 1 ≡ c.args.row * f.columns + (c.loop-column.column + 1) = (let e = point_in-place f c.args.row c.loop-column.column in omega (arith, e)) in
+    let next : place_of_frame f (point_in f c.args.row c.loop-column.column) + 1 ≡ c.args.row * f.columns
+    + (c.loop-column.column + 1) = (let e = point_in-place f c.args.row c.loop-column.column in omega (arith, e)) in
     subst (λ (k : ℕ). IsGathered m g.S.Side.NAME c.args.plot.tiling.side c.args.plot.tile f k all.nodes.items all.numbers.items all.labels.items) next c.in_ok-take.ensures
 
 pub loop-column-init : goal.loop-column-init

@@ -13,10 +13,12 @@ pub walk-init : goal.walk-init
 walk-init c =
     let lasts : List (Option ℕ) = c.args.self.now.lasts.items in
     let list : List Meeting = c.args.self.now.list.items in
-    ahead-start c.args.a c.args.b list c.index-here.result.now (c.requires.chained.ends c.args.a c.index-here.result.now (slice_get_read lasts (length lasts) c.args.a c.index-here.result.now refl c.requires.inside c.index-here.ensures))
+    ahead-start c.args.a c.args.b list c.index-here.result.now (c.requires.chained.ends c.args.a c.index-here.result.now
+    (slice_get_read lasts (length lasts) c.args.a c.index-here.result.now refl c.requires.inside c.index-here.ensures))
 
 pub index-meeting-requires : goal.index-meeting-requires
-index-meeting-requires c = (let ahead : Ahead c.args.a c.args.b c.args.self.now.list.items c.in-Some.number = subst (IsAhead c.args.a c.args.b c.args.self.now.list.items) c.in-Some.is c.walk.invariant in let inside = ahead.0 in omega (arith, inside, c.args.self.now.list.ok.0))
+index-meeting-requires c = (let ahead : Ahead c.args.a c.args.b c.args.self.now.list.items c.in-Some.number = subst
+    (IsAhead c.args.a c.args.b c.args.self.now.list.items) c.in-Some.is c.walk.invariant in let inside = ahead.0 in omega (arith, inside, c.args.self.now.list.ok.0))
 
 pub walk-smaller : goal.walk-smaller
 walk-smaller c =
@@ -24,7 +26,8 @@ walk-smaller c =
     let ahead : Ahead c.args.a c.args.b list c.in-Some.number = subst (IsAhead c.args.a c.args.b list) c.in-Some.is c.walk.invariant in
     let x : Meeting = c.index-meeting.result.now in
     let read = slice_get_read list (length list) c.in-Some.number x refl ahead.0 c.index-meeting.ensures in
-    subst (λ (o : Option ℕ). up_to x.before < up_to o) (sym c.in-Some.is) (ahead-more c.args.a c.args.b c.args.self.now.lasts.items list c.in-Some.number x c.requires.chained ahead read c.if-meeting-b.false).1
+    subst (λ (o : Option ℕ). up_to x.before < up_to o) (sym c.in-Some.is) (ahead-more c.args.a c.args.b c.args.self.now.lasts.items list c.in-Some.number x c.requires.chained ahead
+    read c.if-meeting-b.false).1
 
 pub walk-preserved : goal.walk-preserved
 walk-preserved c =

@@ -13,7 +13,15 @@ returns-then-not-below-clause-lowers g c = λ a b known. (
     let read : slice_get list c.args.number ≡ Some x = slice_get_read list (length list) c.args.number x refl c.requires.inside c.index-meeting.ensures in
     let same : known.meeting ≡ x = same_Some known.meeting x (sym known.at ∙ read) in
     let low : below_by g.S.Side.NAME c.args.at x.at ≡ false = search rules in
-    inr (record { number = c.args.number; was = x; at = read; lesser = ap (λ (z : Meeting). z.a) (sym same) ∙ known.lesser; greater = ap (λ (z : Meeting). z.b) (sym same) ∙ known.greater; is = inl (refl, low) }))
+    inr (record {
+      number = c.args.number;
+      was = x;
+      at = read;
+      lesser = ap (λ (z : Meeting). z.a) (sym same) ∙ known.lesser;
+      greater = ap (λ (z : Meeting). z.b) (sym same)
+          ∙ known.greater;
+      is = inl (refl, low);
+    }))
 
 pub returns-clause-chained : goal.returns-clause-chained
 returns-clause-chained g c =

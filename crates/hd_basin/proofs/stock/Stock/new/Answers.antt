@@ -12,7 +12,15 @@ loop-tile-preserved c =
     let e : c.push.new.self.items ≡ c.loop-tile.tiles.items ++ c.unseen.result ∷ [] = c.in_ok-push.ensures.items in
     record {
       count = rw e (let n = length_push c.loop-tile.tiles.items c.unseen.result in let k = c.loop-tile.invariant.count in omega (arith, n, k));
-      blank = rw e (All-push IsBlank c.loop-tile.tiles.items c.unseen.result c.loop-tile.invariant.blank (record { seen = c.unseen.ensures.seen; keys = c.unseen.ensures.keys; labels = c.unseen.ensures.labels; joins = c.unseen.ensures.joins; seams = c.unseen.ensures.seams }));
+      blank = rw e (All-push IsBlank c.loop-tile.tiles.items c.unseen.result c.loop-tile.invariant.blank
+          (record {
+            seen = c.unseen.ensures.seen;
+            keys = c.unseen.ensures.keys;
+            labels = c.unseen.ensures.labels;
+            joins = c.unseen.ensures.joins;
+            seams =
+                c.unseen.ensures.seams;
+          }));
     }
 
 pub invariant_of-result : goal.invariant_of-result

@@ -31,8 +31,10 @@ invariant_of-self-2 c =
     let kept : Kept = record { seen = part.seen; keys = c.in_ok-keys.keys; labels = part.labels; joins = part.joins; seams = part.seams } in
     let inside = tile-inside s.nodes s.tiles.items c.args.self.now c.self.view_is c.args.tile c.requires in
     let at : slice_get s.tiles.items c.args.tile ≡ Some was = slice_get_read s.tiles.items (length s.tiles.items) c.args.tile was refl inside c.index.ensures in
-    let put : ArePut s.nodes c.put_in.new.slab kept.keys.items part.nodes = subst (λ (ns : List Node). ArePut s.nodes c.put_in.new.slab kept.keys.items ns) c.as_slice.ensures c.in_ok-keys.ensures.ok in
-    let out : AreTakenOut c.put_in.new.slab c.take_out.new.slab was.keys.items = subst (λ (ks : List ℕ). AreTakenOut c.put_in.new.slab c.take_out.new.slab ks) c.as_slice-2.ensures.value c.take_out.ensures in
+    let put : ArePut s.nodes c.put_in.new.slab kept.keys.items part.nodes = subst
+    (λ (ns : List Node). ArePut s.nodes c.put_in.new.slab kept.keys.items ns) c.as_slice.ensures c.in_ok-keys.ensures.ok in
+    let out : AreTakenOut c.put_in.new.slab c.take_out.new.slab was.keys.items = subst
+    (λ (ks : List ℕ). AreTakenOut c.put_in.new.slab c.take_out.new.slab ks) c.as_slice-2.ensures.value c.take_out.ensures in
     replaced-stocked s.nodes c.put_in.new.slab c.take_out.new.slab s.tiles.items c.args.tile was kept part c.self.invariant inside at put out
 
 pub returns-clause-ok : goal.returns-clause-ok
@@ -43,7 +45,9 @@ returns-clause-ok c =
     let kept : Kept = record { seen = part.seen; keys = c.in_ok-keys.keys; labels = part.labels; joins = part.joins; seams = part.seams } in
     let inside = tile-inside s.nodes s.tiles.items c.args.self.now c.self.view_is c.args.tile c.requires in
     let at : slice_get s.tiles.items c.args.tile ≡ Some was = slice_get_read s.tiles.items (length s.tiles.items) c.args.tile was refl inside c.index.ensures in
-    let put : ArePut s.nodes c.put_in.new.slab kept.keys.items part.nodes = subst (λ (ns : List Node). ArePut s.nodes c.put_in.new.slab kept.keys.items ns) c.as_slice.ensures c.in_ok-keys.ensures.ok in
-    let out : AreTakenOut c.put_in.new.slab c.take_out.new.slab was.keys.items = subst (λ (ks : List ℕ). AreTakenOut c.put_in.new.slab c.take_out.new.slab ks) c.as_slice-2.ensures.value c.take_out.ensures in
+    let put : ArePut s.nodes c.put_in.new.slab kept.keys.items part.nodes = subst
+    (λ (ns : List Node). ArePut s.nodes c.put_in.new.slab kept.keys.items ns) c.as_slice.ensures c.in_ok-keys.ensures.ok in
+    let out : AreTakenOut c.put_in.new.slab c.take_out.new.slab was.keys.items = subst
+    (λ (ks : List ℕ). AreTakenOut c.put_in.new.slab c.take_out.new.slab ks) c.as_slice-2.ensures.value c.take_out.ensures in
     replaced-view s.nodes c.put_in.new.slab c.take_out.new.slab s.tiles.items c.args.tile was kept part c.self.invariant inside at put out
     ∙ ap (λ (ps : List Part). set ps c.args.tile part) c.self.view_is

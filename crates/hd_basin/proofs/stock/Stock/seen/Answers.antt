@@ -10,7 +10,8 @@ returns-in-Some c =
     let kept : Kept = c.in-Some.kept.now in
     let tiles : List Kept = c.deref.result.now in
     let look = c.in-Some.ensures.lookup in
-    let at : slice_get s.tiles.items c.args.tile ≡ Some kept = ap (λ (ks : List Kept). slice_get ks c.args.tile) (sym c.deref.ensures.value) ∙ slice_get_read tiles (length tiles) c.args.tile kept refl look.3.0 look.1 in
+    let at : slice_get s.tiles.items c.args.tile ≡ Some kept = ap (λ (ks : List Kept). slice_get ks c.args.tile) (sym c.deref.ensures.value)
+    ∙ slice_get_read tiles (length tiles) c.args.tile kept refl look.3.0 look.1 in
     sym (seen-stored s.nodes s.tiles.items c.args.self.now c.self.view_is c.args.tile ∙ ap (λ (o : Option Kept). option_and_then (λ (k : Kept). k.seen) o) at)
 
 pub returns-in-None : goal.returns-in-None

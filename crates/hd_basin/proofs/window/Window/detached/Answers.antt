@@ -4,7 +4,13 @@ use Rattle.hd_basin.proofs.window.Window.detached.Goals as goal
 pub invariant_of-result : goal.invariant_of-result
 invariant_of-result c =
     let w = c.args.self.now in
-    record { whole = rw (c.in_ok-extend_from_slice.ensures.items, c.in_ok-heights.ensures.items, c.deref.ensures.value) (part-window w.size w.frame w.heights.items w.whole c.requires.columns c.requires.rows) }
+    record {
+      whole = rw (
+        c.in_ok-extend_from_slice.ensures.items,
+        c.in_ok-heights.ensures.items,
+        c.deref.ensures.value,
+      ) (part-window w.size w.frame w.heights.items w.whole c.requires.columns c.requires.rows);
+    }
 
 pub returns : goal.returns
 returns c =

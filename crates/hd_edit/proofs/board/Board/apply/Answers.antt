@@ -6,7 +6,8 @@ use Rattle.hd_edit.proofs.board.Board.apply.Goals as goal
 
 pub returns-clause-earlier : goal.returns-clause-earlier
 returns-clause-earlier g c =
-    rw (← c.self.view_is) (earlier_maps-kept c.self.inside.log.items c.push_back.new.self.items c.in_ok-entry.entry c.self.inside.log.capacity (g.G.Heights.map c.self.inside.grid) (g.G.Heights.map c.make.new.grid)
+    rw (← c.self.view_is) (earlier_maps-kept c.self.inside.log.items c.push_back.new.self.items c.in_ok-entry.entry c.self.inside.log.capacity (g.G.Heights.map c.self.inside.grid)
+    (g.G.Heights.map c.make.new.grid)
     (ap (λ (b : Buffer Entry). b.items) c.push_back.ensures.items) c.self.invariant.places c.in_ok-entry.ensures.before)
 
 pub invariant_of-self : goal.invariant_of-self

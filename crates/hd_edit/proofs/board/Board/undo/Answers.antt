@@ -9,9 +9,11 @@ pub loop-step-preserved : goal.loop-step-preserved
 loop-step-preserved g c =
     let all = c.args.self.now.earlier ++ g.G.Heights.map c.args.self.now.grid ∷ [] in
     let is = c.loop-step.invariant in
-    let one : length c.loop-step.self.earlier ≡ length c.undo_last.new.self.earlier + 1 = ap (λ (xs : List Map). length xs) c.undo_last.ensures.earlier ∙ length_push c.undo_last.new.self.earlier (g.G.Heights.map c.undo_last.new.self.grid) in
+    let one : length c.loop-step.self.earlier ≡ length c.undo_last.new.self.earlier + 1 = ap (λ (xs : List Map). length xs) c.undo_last.ensures.earlier
+    ∙ length_push c.undo_last.new.self.earlier (g.G.Heights.map c.undo_last.new.self.grid) in
     record {
-      history = take_back-more all c.loop-step.self.earlier c.undo_last.new.self.earlier (g.G.Heights.map c.loop-step.self.grid) (g.G.Heights.map c.undo_last.new.self.grid) (length c.args.self.now.earlier) c.loop-step._step
+      history = take_back-more all c.loop-step.self.earlier c.undo_last.new.self.earlier (g.G.Heights.map c.loop-step.self.grid) (g.G.Heights.map c.undo_last.new.self.grid)
+          (length c.args.self.now.earlier) c.loop-step._step
           is.history is.len c.undo_last.ensures.earlier;
       len = omega (arith, is.len, one);
       elements = c.undo_last.ensures.elements ∙ is.elements;

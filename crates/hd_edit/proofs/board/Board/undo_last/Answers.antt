@@ -14,7 +14,8 @@ put_back-requires-clause-entry g c =
 
 pub invariant_of-self : goal.invariant_of-self
 invariant_of-self g c =
-    IsLog-undone c.self.inside.log c.pop_back.new.self c.in-Some.entry (g.G.Heights.map c.self.inside.grid) (g.G.Heights.map c.put_back.new.grid) c.self.invariant c.in-Some.ensures.items c.put_back.ensures.map
+    IsLog-undone c.self.inside.log c.pop_back.new.self c.in-Some.entry (g.G.Heights.map c.self.inside.grid)
+    (g.G.Heights.map c.put_back.new.grid) c.self.invariant c.in-Some.ensures.items c.put_back.ensures.map
 
 pub returns-in-Some-clause-earlier : goal.returns-in-Some-clause-earlier
 returns-in-Some-clause-earlier g c =
@@ -28,4 +29,5 @@ returns-in-Some-clause-count g c =
 
 pub returns-in_default-clause-earlier : goal.returns-in_default-clause-earlier
 returns-in_default-clause-earlier g c =
-    absurd (c.requires.kept (ap (λ (b : BoardState g.row.G.Denot). b.earlier) (sym c.self.view_is) ∙ ap (λ (es : List Entry). earlier_maps es (g.G.Heights.map c.self.inside.grid)) (last_item-none c.self.inside.log.items c.in_default.ensures.value)))
+    absurd (c.requires.kept (ap (λ (b : BoardState g.row.G.Denot). b.earlier) (sym c.self.view_is)
+    ∙ ap (λ (es : List Entry). earlier_maps es (g.G.Heights.map c.self.inside.grid)) (last_item-none c.self.inside.log.items c.in_default.ensures.value)))

@@ -43,5 +43,6 @@ returns-clause-changes c =
     let none : inside.others.items ≡ [] = nil_from_length inside.others.items (sym inside.others.ok.0 ∙ eqb-true (vec_len inside.others) 0 (sym c.if-not-is_empty.ensures)) in
     let at : ℕ → Change = λ i. record { index = i; was = was.Height (widened c.args.over) } in
     let told = ap at c.in-Some.ensures in
-    changes_after-noted inside.first inside.last inside.heights.items c.push_reserved-2.new.self.items inside.others.items (record { distance = c.in-Some.distance; over = c.args.over }) change c.self.invariant.0 c.push_reserved-2.ensures.items told none
+    changes_after-noted inside.first inside.last inside.heights.items c.push_reserved-2.new.self.items inside.others.items
+    (record { distance = c.in-Some.distance; over = c.args.over }) change c.self.invariant.0 c.push_reserved-2.ensures.items told none
     ∙ ap (λ (s : NewNotesState). s.changes ++ change ∷ []) c.self.view_is

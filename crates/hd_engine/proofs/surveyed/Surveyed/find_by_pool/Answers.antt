@@ -7,7 +7,12 @@ pub invariant_of-self : goal.invariant_of-self
 invariant_of-self g c =
     let were = c.self.invariant.survey in
     record {
-      survey = record { presence = rw c.grid-tiles.ensures at c.find_by_pool.ensures.presence; sums = were.sums; dales = rw c.grid-tiles.ensures at c.find_by_pool.ensures.findings; hills = were.hills };
+      survey = record {
+        presence = rw c.grid-tiles.ensures at c.find_by_pool.ensures.presence;
+        sums = were.sums;
+        dales = rw c.grid-tiles.ensures at c.find_by_pool.ensures.findings;
+        hills = were.hills;
+      };
       dales = rw c.grid-tiles.ensures at c.find_by_pool.ensures.follows;
       hills = c.self.invariant.hills;
     }
@@ -19,7 +24,13 @@ pub invariant_of-self-in-Hills : goal.invariant_of-self-in-Hills
 invariant_of-self-in-Hills g c =
     let were = c.self.invariant.survey in
     record {
-      survey = record { presence = rw c.grid-tiles.ensures at c.find_by_pool-in-Hills.ensures.presence; sums = were.sums; dales = were.dales; hills = rw c.grid-tiles.ensures at c.find_by_pool-in-Hills.ensures.findings };
+      survey = record {
+        presence = rw c.grid-tiles.ensures at c.find_by_pool-in-Hills.ensures.presence;
+        sums = were.sums;
+        dales = were.dales;
+        hills =
+            rw c.grid-tiles.ensures at c.find_by_pool-in-Hills.ensures.findings;
+      };
       dales = c.self.invariant.dales;
       hills = rw c.grid-tiles.ensures at c.find_by_pool-in-Hills.ensures.follows;
     }

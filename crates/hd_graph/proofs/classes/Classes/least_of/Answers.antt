@@ -33,7 +33,8 @@ loop-least-smaller c =
     let at : slice_get parents c.loop-least.least ≡ Some c.index-parent.result.now = get-from_read parents c.loop-least.least _ _ inside (sym c.index-parent.ensures) in
     let same : c.index.result.now ≡ c.index-parent.result.now = same_Some c.index.result.now c.index-parent.result.now (sym tested ∙ at) in
     let first = c.loop-least.invariant.falling c.loop-least.least c.index-parent.result.now at in
-    let at_parent : slice_get parents c.index-parent.result.now ≡ Some c.index-next.result.now = get-from_read parents c.index-parent.result.now _ _ (omega (arith, inside, first)) (sym c.index-next.ensures) in
+    let at_parent : slice_get parents c.index-parent.result.now ≡ Some c.index-next.result.now = get-from_read parents c.index-parent.result.now _ _ (omega (arith, inside, first))
+    (sym c.index-next.ensures) in
     let second = c.loop-least.invariant.falling c.index-parent.result.now c.index-next.result.now at_parent in
     omega (arith, same, first, second, c.loop-least-test.true)
 

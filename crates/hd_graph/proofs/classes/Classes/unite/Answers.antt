@@ -26,7 +26,8 @@ returns c =
     let second : ℕ = c.args.second in
     let greater : ℕ = c.max-greater.result in
     let least : ℕ = c.min-least.result in
-    let pair = paired first second greater least (λ h. (omega (arith, c.max-greater.ensures), omega (arith, c.min-least.ensures))) (λ h. (omega (arith, c.max-greater.ensures), omega (arith, c.min-least.ensures))) in
+    let pair = paired first second greater least (λ h. (omega (arith, c.max-greater.ensures), omega (arith, c.min-least.ensures)))
+    (λ h. (omega (arith, c.max-greater.ensures), omega (arith, c.min-least.ensures))) in
     let at = least-number parents first second c.requires.first c.requires.second greater least pair in
     record {
       falling = falling-set parents parents (refines-same parents) c.requires.falling greater least greater at (omega (arith, c.max-greater.ensures, c.min-least.ensures));

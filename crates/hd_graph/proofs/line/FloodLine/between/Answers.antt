@@ -11,7 +11,8 @@ returns-in_err-highest g c =
     let line : List Stop = c.as_slice-stops.result.now in
     let is : line ≡ c.args.self.now = c.as_slice-stops.ensures ∙ c.self.view_is in
     let inside : c.args.j < length line = rw is c.requires.within in
-    let none = between-none (below_by g.S.Side.NAME) g.met.S.Side.order line c.args.i c.args.j c.args.j (get_or line c.args.j _) c.requires.order (omega arith) (slice_get-get_or line c.args.j _ inside) c.in_err-highest.was in
+    let none = between-none (below_by g.S.Side.NAME) g.met.S.Side.order line c.args.i c.args.j c.args.j (get_or line c.args.j _) c.requires.order (omega arith)
+    (slice_get-get_or line c.args.j _ inside) c.in_err-highest.was in
     c.from_residual.ensures ∙ sym none ∙ ap (λ (xs : List Stop). rise_between (below_by g.S.Side.NAME) xs c.args.i c.args.j) is
 
 pub loop-k-init : goal.loop-k-init
@@ -19,7 +20,8 @@ loop-k-init g c =
     let line : List Stop = c.as_slice-stops.result.now in
     let is : line ≡ c.args.self.now = c.as_slice-stops.ensures ∙ c.self.view_is in
     let inside : c.args.j < length line = rw is c.requires.within in
-    highest-first (below_by g.S.Side.NAME) g.met.S.Side.order line c.args.i c.args.j (get_or line c.args.j _) c.in_ok-highest.highest c.requires.order (slice_get-get_or line c.args.j _ inside) c.in_ok-highest.was
+    highest-first (below_by g.S.Side.NAME) g.met.S.Side.order line c.args.i c.args.j (get_or line c.args.j _) c.in_ok-highest.highest c.requires.order
+    (slice_get-get_or line c.args.j _ inside) c.in_ok-highest.was
 
 pub returns-in_err-stops : goal.returns-in_err-stops
 returns-in_err-stops g c =
@@ -28,7 +30,8 @@ returns-in_err-stops g c =
     let before : c.loop-k.k < c.args.j = c.loop-k-test.true in
     let within : c.args.j < length line = rw is c.requires.within in
     let inside : c.loop-k.k < length line = omega (arith, before, within) in
-    let none = between-none (below_by g.S.Side.NAME) g.met.S.Side.order line c.args.i c.args.j c.loop-k.k (get_or line c.loop-k.k _) (omega (arith, c.loop-k.auto.k)) (omega (arith, before)) (slice_get-get_or line c.loop-k.k _ inside) c.in_err-stops.was in
+    let none = between-none (below_by g.S.Side.NAME) g.met.S.Side.order line c.args.i c.args.j c.loop-k.k (get_or line c.loop-k.k _) (omega (arith, c.loop-k.auto.k))
+    (omega (arith, before)) (slice_get-get_or line c.loop-k.k _ inside) c.in_err-stops.was in
     c.from_residual-in_err-stops.ensures ∙ sym none ∙ ap (λ (xs : List Stop). rise_between (below_by g.S.Side.NAME) xs c.args.i c.args.j) is
 
 pub loop-k-preserved : goal.loop-k-preserved

@@ -12,7 +12,10 @@ pub invariant_of-result-clause-whole : goal.invariant_of-result-clause-whole
 invariant_of-result-clause-whole c =
     let heights = c.in_ok-vec.field-0.items in
     let marks = c.in_ok-vec-2.field-0.items in
-    subst IsMap (sym (unmeasured_is (over_least c.args.data_type) 0 c.args.size c.args.data_type heights marks (c.in_ok-vec.ensures.items_if_clones_equal (λ _ e. e)) (c.in_ok-vec-2.ensures.items_if_clones_equal (λ _ e. e)))) (unmeasured_whole c.args.size c.args.data_type c.requires.limits (narrow_places c.args.data_type c.requires.narrow))
+    subst IsMap (sym (unmeasured_is (over_least c.args.data_type) 0 c.args.size c.args.data_type heights marks (c.in_ok-vec.ensures.items_if_clones_equal (λ _ e. e))
+    (c.in_ok-vec-2.ensures.items_if_clones_equal (λ _ e. e)))) (unmeasured_whole c.args.size c.args.data_type c.requires.limits
+    (narrow_places c.args.data_type c.requires.narrow))
 
 pub returns : goal.returns
-returns c = unmeasured_is (over_least c.args.data_type) 0 c.args.size c.args.data_type c.in_ok-vec.field-0.items c.in_ok-vec-2.field-0.items (c.in_ok-vec.ensures.items_if_clones_equal (λ _ e. e)) (c.in_ok-vec-2.ensures.items_if_clones_equal (λ _ e. e))
+returns c = unmeasured_is (over_least c.args.data_type) 0 c.args.size c.args.data_type c.in_ok-vec.field-0.items c.in_ok-vec-2.field-0.items
+    (c.in_ok-vec.ensures.items_if_clones_equal (λ _ e. e)) (c.in_ok-vec-2.ensures.items_if_clones_equal (λ _ e. e))

@@ -45,7 +45,8 @@ invariant_of-self g c =
       is_least = s.is_least;
       narrow = s.narrow;
       paired = ap length numbers ∙ loop.invariant.paired ∙ sym (ap length marks);
-      whole = rw (numbers, marks) (set_whole (over_least s.data_type) s.size s.data_type s.heights.items s.marks.items s.adjacency c.args.y (values_of g.L.Lane.code c.args.row.now) s.whole c.requires.in_range
+      whole = rw (numbers, marks) (set_whole (over_least s.data_type) s.size s.data_type s.heights.items s.marks.items s.adjacency c.args.y
+          (values_of g.L.Lane.code c.args.row.now) s.whole c.requires.in_range
           loop.x loop.heights loop.marks loop.invariant);
     }
 

@@ -11,13 +11,19 @@ pub invariant_of-self-clause-whole : goal.invariant_of-self-clause-whole
 invariant_of-self-clause-whole c =
     let s = c.args.self.now in
     let index = c.index_of-index in
-    subst IsMap (sym (mask_set (over_least s.data_type) s.size s.data_type s.heights.items s.marks.items s.adjacency s.paired s.whole c.args.at index.result index.ensures.value index.ensures.in_map c.index.result.now c.index.ensures c.of.result c.args.masked (c.of.ensures.measured ∙ c.is_measured.ensures) c.of.ensures.masked)) (mask_kept (narrow_map s) c.args.at c.args.masked s.whole)
+    subst IsMap (sym (mask_set (over_least s.data_type) s.size s.data_type s.heights.items s.marks.items s.adjacency s.paired s.whole
+    c.args.at index.result index.ensures.value index.ensures.in_map c.index.result.now c.index.ensures c.of.result c.args.masked
+    (c.of.ensures.measured ∙ c.is_measured.ensures) c.of.ensures.masked)) (mask_kept (narrow_map s) c.args.at c.args.masked s.whole)
 
 pub returns-clause-sets : goal.returns-clause-sets
 returns-clause-sets c =
     let s = c.args.self.now in
-    let index = c.index_of-index in
-    (search rules, mask_set (over_least s.data_type) s.size s.data_type s.heights.items s.marks.items s.adjacency s.paired s.whole c.args.at index.result index.ensures.value index.ensures.in_map c.index.result.now c.index.ensures c.of.result c.args.masked (c.of.ensures.measured ∙ c.is_measured.ensures) c.of.ensures.masked)
+    let index = c.index_of-index in (
+      search rules,
+      mask_set (over_least s.data_type) s.size s.data_type s.heights.items s.marks.items s.adjacency s.paired s.whole
+          c.args.at index.result index.ensures.value index.ensures.in_map c.index.result.now c.index.ensures c.of.result c.args.masked
+          (c.of.ensures.measured ∙ c.is_measured.ensures) c.of.ensures.masked,
+    )
 
 pub invariant_of-self-clause-paired : goal.invariant_of-self-clause-paired
 invariant_of-self-clause-paired c =

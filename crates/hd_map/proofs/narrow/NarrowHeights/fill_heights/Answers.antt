@@ -37,7 +37,8 @@ loop-x-preserved g c =
     let most_read : to_z w64 (of_z w64 c.most_height-most.result) ≡ pos n = omega (arith, ints, c.most_height-most.ensures, c.most_height-most.type_inv) in
     filled_more g.L.Lane.code (narrow_map s) c.args.y c.loop-x.x c.loop-x.all c.is_shown-shown.result _ c.loop-x.row (over_least t over) c.number_of.result
     (omega (arith, c.loop-x-test.true, c.loop-x.auto.row)) (c.loop-x.auto.row ∙ c.requires.columns)
-    (height_shown (over_least t) s.size t s.heights.items c.as_slice-heights.result.now s.marks.items c.as_slice-marks.result.now s.adjacency s.paired s.whole c.as_slice-heights.ensures.value c.as_slice-marks.ensures.value
+    (height_shown (over_least t) s.size t s.heights.items c.as_slice-heights.result.now s.marks.items c.as_slice-marks.result.now s.adjacency s.paired s.whole
+    c.as_slice-heights.ensures.value c.as_slice-marks.ensures.value
     at (record { column = omega (arith, c.loop-x-test.true, c.requires.columns); profile = c.requires.profile }) c.is_shown-shown.result c.is_shown-shown.ensures 0)
     (over_tells t s.least _ n c.first_near-from.result c.last_near-to.result over s.is_least most_read (c.first_near-from.ensures over) (c.last_near-to.ensures over few))
     (rw (over_read t s.least over s.is_least few) at c.number_of.ensures) c.loop-x.invariant

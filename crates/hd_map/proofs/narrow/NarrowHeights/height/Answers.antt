@@ -13,4 +13,5 @@ returns c =
     c.height_over.ensures
     ∙ ap (λ (l : ℤ). shown_height (cell_from (λ (n : ℕ). l +ℤ pos n) c.index.result.now mark) (masks mark)) (least_read s.data_type s.least s.is_least)
     ∙ ap (λ (n : ℕ). shown_height (cell_from (over_least s.data_type) n mark) (masks mark)) c.index.ensures
-    ∙ height_read (over_least s.data_type) s.size s.data_type s.heights.items s.marks.items s.adjacency s.paired s.whole c.args.at index.result index.ensures.value index.ensures.in_map mark c.index-2.ensures c.index.result.now
+    ∙ height_read (over_least s.data_type) s.size s.data_type s.heights.items s.marks.items s.adjacency s.paired s.whole
+    c.args.at index.result index.ensures.value index.ensures.in_map mark c.index-2.ensures c.index.result.now

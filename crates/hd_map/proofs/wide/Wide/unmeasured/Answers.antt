@@ -11,7 +11,9 @@ pub invariant_of-result-clause-whole : goal.invariant_of-result-clause-whole
 invariant_of-result-clause-whole c =
     let heights = c.in_ok-vec.field-0.items in
     let marks = c.in_ok-vec-2.field-0.items in
-    subst IsMap (sym (unmeasured_is as_it_is (pos 0) c.args.size c.args.data_type heights marks (c.in_ok-vec.ensures.items_if_clones_equal (λ _ e. e)) (c.in_ok-vec-2.ensures.items_if_clones_equal (λ _ e. e)))) (unmeasured_whole c.args.size c.args.data_type c.requires.limits c.requires.places)
+    subst IsMap (sym (unmeasured_is as_it_is (pos 0) c.args.size c.args.data_type heights marks (c.in_ok-vec.ensures.items_if_clones_equal (λ _ e. e))
+    (c.in_ok-vec-2.ensures.items_if_clones_equal (λ _ e. e)))) (unmeasured_whole c.args.size c.args.data_type c.requires.limits c.requires.places)
 
 pub returns : goal.returns
-returns c = unmeasured_is as_it_is (pos 0) c.args.size c.args.data_type c.in_ok-vec.field-0.items c.in_ok-vec-2.field-0.items (c.in_ok-vec.ensures.items_if_clones_equal (λ _ e. e)) (c.in_ok-vec-2.ensures.items_if_clones_equal (λ _ e. e))
+returns c = unmeasured_is as_it_is (pos 0) c.args.size c.args.data_type c.in_ok-vec.field-0.items c.in_ok-vec-2.field-0.items (c.in_ok-vec.ensures.items_if_clones_equal (λ _ e. e))
+    (c.in_ok-vec-2.ensures.items_if_clones_equal (λ _ e. e))

@@ -8,14 +8,20 @@ use Rattle.hd_map.proofs.wide.Wide.without_masks.Goals as goal
 pub invariant_of-result-clause-paired : goal.invariant_of-result-clause-paired
 invariant_of-result-clause-paired c =
     let s = c.args.self.now in
-    unmasked_paired as_it_is s.size s.data_type s.heights.items c.in_ok-heights.heights.items s.marks.items s.adjacency s.whole (c.in_ok-heights.ensures.items ∙ c.as_slice.ensures.value) c.in_ok-marks.marks.items (subst (λ (ms : List Mark). AreUnmasked ms c.in_ok-marks.marks.items) c.as_slice-2.ensures.value c.in_ok-marks.ensures) s.paired
+    unmasked_paired as_it_is s.size s.data_type s.heights.items c.in_ok-heights.heights.items s.marks.items s.adjacency s.whole
+    (c.in_ok-heights.ensures.items ∙ c.as_slice.ensures.value) c.in_ok-marks.marks.items
+    (subst (λ (ms : List Mark). AreUnmasked ms c.in_ok-marks.marks.items) c.as_slice-2.ensures.value c.in_ok-marks.ensures) s.paired
 
 pub invariant_of-result-clause-whole : goal.invariant_of-result-clause-whole
 invariant_of-result-clause-whole c =
     let s = c.args.self.now in
-    unmasked_whole as_it_is s.size s.data_type s.heights.items c.in_ok-heights.heights.items s.marks.items s.adjacency s.whole (c.in_ok-heights.ensures.items ∙ c.as_slice.ensures.value) c.in_ok-marks.marks.items (subst (λ (ms : List Mark). AreUnmasked ms c.in_ok-marks.marks.items) c.as_slice-2.ensures.value c.in_ok-marks.ensures)
+    unmasked_whole as_it_is s.size s.data_type s.heights.items c.in_ok-heights.heights.items s.marks.items s.adjacency s.whole
+    (c.in_ok-heights.ensures.items ∙ c.as_slice.ensures.value) c.in_ok-marks.marks.items
+    (subst (λ (ms : List Mark). AreUnmasked ms c.in_ok-marks.marks.items) c.as_slice-2.ensures.value c.in_ok-marks.ensures)
 
 pub returns : goal.returns
 returns c =
     let s = c.args.self.now in
-    unmasked_map as_it_is s.size s.data_type s.heights.items c.in_ok-heights.heights.items s.marks.items s.adjacency s.whole (c.in_ok-heights.ensures.items ∙ c.as_slice.ensures.value) c.in_ok-marks.marks.items (subst (λ (ms : List Mark). AreUnmasked ms c.in_ok-marks.marks.items) c.as_slice-2.ensures.value c.in_ok-marks.ensures)
+    unmasked_map as_it_is s.size s.data_type s.heights.items c.in_ok-heights.heights.items s.marks.items s.adjacency s.whole
+    (c.in_ok-heights.ensures.items ∙ c.as_slice.ensures.value) c.in_ok-marks.marks.items
+    (subst (λ (ms : List Mark). AreUnmasked ms c.in_ok-marks.marks.items) c.as_slice-2.ensures.value c.in_ok-marks.ensures)

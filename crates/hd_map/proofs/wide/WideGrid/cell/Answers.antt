@@ -7,4 +7,5 @@ pub returns-else-is_measured : goal.returns-else-is_measured
 returns-else-is_measured c =
     let s = c.args.self.now in
     let index = c.index_of-index in
-    sym (bad_read as_it_is s.size s.data_type s.heights.items s.marks.items s.adjacency s.paired s.whole c.args.at index.result index.ensures.value index.ensures.in_map c.index.result.now c.index.ensures (pos 0) (sym c.is_measured.ensures ∙ c.if-is_measured.false))
+    sym (bad_read as_it_is s.size s.data_type s.heights.items s.marks.items s.adjacency s.paired s.whole c.args.at index.result index.ensures.value index.ensures.in_map
+    c.index.result.now c.index.ensures (pos 0) (sym c.is_measured.ensures ∙ c.if-is_measured.false))

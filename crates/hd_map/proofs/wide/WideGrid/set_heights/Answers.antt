@@ -27,7 +27,8 @@ loop-x-preserved g c =
     rw (to_z-of_z w64 _ fits) (set_more as_it_is s.size s.data_type s.heights.items s.marks.items s.adjacency c.args.y (values_of code c.args.row.now) s.whole c.requires.in_range
     c.loop-x.x c.loop-x.heights c.loop-x.marks c.unwrap_or.result (pos 0) c.measured_if.result (code.shown c.index-row-x.result) inside c.loop-x.invariant
     (value_in code c.args.row.now c.loop-x.x c.index-row-x.result c.loop-x-test.true c.index-row-x.is)
-    (or_before (code.shown c.index-row-x.result) before c.unwrap_or.result (rw (c.height.ensures, read) at c.unwrap_or.ensures)) (rw c.is_shown.ensures at c.measured_if.ensures.measured) c.measured_if.ensures.masked)
+    (or_before (code.shown c.index-row-x.result) before c.unwrap_or.result (rw (c.height.ensures, read) at c.unwrap_or.ensures))
+    (rw c.is_shown.ensures at c.measured_if.ensures.measured) c.measured_if.ensures.masked)
 
 pub invariant_of-self : goal.invariant_of-self
 invariant_of-self g c =

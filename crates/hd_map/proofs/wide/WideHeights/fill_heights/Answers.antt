@@ -32,7 +32,8 @@ loop-x-preserved g c =
     let high : to_z w64 (of_z w64 most) ≡ pos n = omega (arith, ints, c.most_height-most.ensures, c.most_height-most.type_inv) in
     filled_more g.L.Lane.code (wide_map s) c.args.y c.loop-x.x c.loop-x.all c.is_shown-shown.result _ c.loop-x.row (to_z w64 (of_z w64 height)) c.number_of.result
     (omega (arith, c.loop-x-test.true, c.loop-x.auto.row)) (c.loop-x.auto.row ∙ c.requires.columns)
-    (height_shown as_it_is s.size s.data_type s.heights.items c.as_slice-heights.result.now s.marks.items c.as_slice-marks.result.now s.adjacency s.paired s.whole c.as_slice-heights.ensures.value c.as_slice-marks.ensures.value
+    (height_shown as_it_is s.size s.data_type s.heights.items c.as_slice-heights.result.now s.marks.items c.as_slice-marks.result.now s.adjacency s.paired s.whole
+    c.as_slice-heights.ensures.value c.as_slice-marks.ensures.value
     at (record { column = omega (arith, c.loop-x-test.true, c.requires.columns); profile = c.requires.profile }) c.is_shown-shown.result c.is_shown-shown.ensures (pos 0)
     ∙ ap (λ (z : ℤ). if c.is_shown-shown.result then Some z else None) (sym read))
     (itself_tells n _ _ _ low high) c.number_of.ensures c.loop-x.invariant

@@ -17,4 +17,6 @@ returns c =
     let bounds = plain_bounds narrow narrow_floor (λ z. refl) c.args.self (omega (arith, ints)) (omega (arith, ints)) c.requires.plain in
     let low = bounds.0 in
     let high = bounds.1 in
-    plus-raised narrow narrow_floor (λ z. refl) c.args.self c.args.number (to_z w32 (of_z w32 (to_z w32 (of_z w32 c.args.self) +ℤ to_z w32 (of_z w32 (to_z w64 (of_z w64 c.args.number)))))) (omega (arith, ints)) (omega (arith, ints)) c.requires.plain c.requires.least c.requires.greatest (omega (arith, ints))
+    plus-raised narrow narrow_floor (λ z. refl) c.args.self c.args.number (to_z w32
+    (of_z w32 (to_z w32 (of_z w32 c.args.self) +ℤ to_z w32 (of_z w32 (to_z w64 (of_z w64 c.args.number)))))) (omega (arith, ints))
+    (omega (arith, ints)) c.requires.plain c.requires.least c.requires.greatest (omega (arith, ints))

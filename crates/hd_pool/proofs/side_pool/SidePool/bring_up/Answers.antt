@@ -9,7 +9,8 @@ refresh-refreshed-requires-clause-following g c =
     let tiles = c.args.tiles.now in
     let m = g.G.Heights.map tiles.grid in
     let side = g.S.Side.NAME in
-    let were : Follows m side tiles.tiling.side tiles.stamps.items (record { pool = c.self.inside.pool; outlay = c.self.inside.outlay }) = subst (Follows m side tiles.tiling.side tiles.stamps.items) (sym c.self.view_is) c.requires in
+    let were : Follows m side tiles.tiling.side tiles.stamps.items (record { pool = c.self.inside.pool; outlay = c.self.inside.outlay }) = subst
+    (Follows m side tiles.tiling.side tiles.stamps.items) (sym c.self.view_is) c.requires in
     elim c.match-take.branch [
       | in-Some w ↦ subst (IsFollowing m side tiles.tiling.side tiles.stamps.items) (sym w.pool-is) (were w.in-Some.pool (sym c.take.ensures.value ∙ w.in-Some.is))
       | in-None+in_ok-pool-in-None w ↦ subst (IsFollowing m side tiles.tiling.side tiles.stamps.items) (sym w.pool-is) w.in_ok-pool-in-None.ensures

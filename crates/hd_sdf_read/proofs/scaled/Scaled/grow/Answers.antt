@@ -15,7 +15,8 @@ overflow_cast-ten_to c =
 
 pub multiply-requires-clause-of_type : goal.multiply-requires-clause-of_type
 multiply-requires-clause-of_type c =
-    Grows-fit c.args.self.now c.args.places c.ten_to.result c.in-Some.greatest c.data_type.result c.with_places-data_type.result c.data_type.ensures c.with_places-data_type.ensures c.requires.few c.ten_to.ensures
+    Grows-fit c.args.self.now c.args.places c.ten_to.result c.in-Some.greatest c.data_type.result c.with_places-data_type.result c.data_type.ensures c.with_places-data_type.ensures
+    c.requires.few c.ten_to.ensures
     c.in-Some.ensures.0 c.in-Some.ensures.1
 
 pub invariant_of-self : goal.invariant_of-self
@@ -26,7 +27,8 @@ invariant_of-self c =
       decimals = has_decimals-with_places s.cells.data_type c.multiply.new.self.data_type c.args.places s.decimals type;
       places_are = with_places-same s.cells.data_type c.multiply.new.self.data_type c.args.places type;
       few = c.requires.few;
-      greatest_is = Grows-size s c.args.places c.ten_to.result c.in-Some.greatest c.data_type.result c.with_places-data_type.result c.data_type.ensures c.with_places-data_type.ensures c.requires.few c.ten_to.ensures
+      greatest_is = Grows-size s c.args.places c.ten_to.result c.in-Some.greatest c.data_type.result c.with_places-data_type.result c.data_type.ensures
+          c.with_places-data_type.ensures c.requires.few c.ten_to.ensures
           c.in-Some.ensures.0 c.in-Some.ensures.1 (wide_cells_in c.multiply.new.self) c.multiply.ensures.cells;
       small = c.in-Some.ensures.1;
     }
@@ -34,7 +36,8 @@ invariant_of-self c =
 pub returns-in-Some : goal.returns-in-Some
 returns-in-Some c =
     let s = c.args.self.now in
-    let power = Grows-power s c.args.places c.ten_to.result c.in-Some.greatest c.data_type.result c.with_places-data_type.result c.data_type.ensures c.with_places-data_type.ensures c.requires.few c.ten_to.ensures
+    let power = Grows-power s c.args.places c.ten_to.result c.in-Some.greatest c.data_type.result c.with_places-data_type.result c.data_type.ensures c.with_places-data_type.ensures
+    c.requires.few c.ten_to.ensures
     c.in-Some.ensures.0 c.in-Some.ensures.1 in (
       c.multiply.ensures.cells ∙ ap (λ k. map (multiplied k) (wide_cells_in s.cells)) power,
       refl,

@@ -25,4 +25,5 @@ returns-in_ok-push_cell-in-Some c = rw c.in-Measured.is (λ t before kept.
 
 pub returns-in-None : goal.returns-in-None
 returns-in-None c = rw c.in-Measured.is (λ t before kept number _.
-    ranged-not_pushed c.refine.new.self t before (Measured c.in-Measured.negative c.in-Measured.units c.in-Measured.places) c.args.number (c.if-not-refine.ensures.heights t before kept) c.in-None.ensures number)
+    ranged-not_pushed c.refine.new.self t before (Measured c.in-Measured.negative c.in-Measured.units c.in-Measured.places) c.args.number
+    (c.if-not-refine.ensures.heights t before kept) c.in-None.ensures number)

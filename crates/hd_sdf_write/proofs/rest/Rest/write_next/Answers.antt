@@ -16,7 +16,8 @@ end_put a k xs ys inside all =
 next_bytes : (given count : ℕ) (text : List ℕ) → drop given text ≡ take (given + count - given) (drop given text) ++ drop (given + count) text
 next_bytes given count text =
     let size : given + count - given ≡ count = omega arith in
-    sym (take-append-drop (given + count - given) (drop given text)) ∙ ap (λ (t : List ℕ). take (given + count - given) (drop given text) ++ t) (ap (λ n. drop n (drop given text)) size ∙ drop-drop count given text)
+    sym (take-append-drop (given + count - given) (drop given text)) ∙ ap (λ (t : List ℕ). take (given + count - given) (drop given text) ++ t)
+    (ap (λ n. drop n (drop given text)) size ∙ drop-drop count given text)
 
 pub returns-clause-text : goal.returns-clause-text
 returns-clause-text c =

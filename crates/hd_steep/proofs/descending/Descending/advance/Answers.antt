@@ -33,7 +33,8 @@ module _ (g : Over) (c : After-deref-2 g) where
   marks_kept = take_at c.find_several.new.several _ c.args.self.now.several.len (let same = c.find_several.auto.several in let long = c.deref_mut.ensures.len in omega (arith, same, long))
 
   columns_kept : take c.args.self.now.columns.len (c.list_marked-listed.new.columns ++ drop (length c.list_marked-listed.new.columns) c.args.self.now.columns.items) ≡ c.list_marked-listed.new.columns
-  columns_kept = take_at c.list_marked-listed.new.columns _ c.args.self.now.columns.len (let same = c.list_marked-listed.auto.columns in let long = c.deref_mut-2.ensures.len in omega (arith, same, long))
+  columns_kept = take_at c.list_marked-listed.new.columns _ c.args.self.now.columns.len
+      (let same = c.list_marked-listed.auto.columns in let long = c.deref_mut-2.ensures.len in omega (arith, same, long))
 
   -- the columns with several marks at which a point is present
   abbrev columns : List ℕ
@@ -62,7 +63,8 @@ slice_bounds-columns-end g c = sym (length-take-le c.list_marked-listed.result c
 pub descend_columns-self-requires-clause-present : goal.descend_columns-self-requires-clause-present
 descend_columns-self-requires-clause-present g c =
     let at = (goal.at.descend_columns-self-requires-clause-present g c).After-deref-2 in
-    listed_present (g.G.Heights.map c.args.grid.now) g.S.Side.NAME (g.met.G.Heights.whole c.args.grid.now) g.L.Lane.code c.args.y c.requires.profile c.advance.new.self (round g at) c.tell.new.self (lower g at) c.find_several.new.several (sized g at) (tells g at)
+    listed_present (g.G.Heights.map c.args.grid.now) g.S.Side.NAME (g.met.G.Heights.whole c.args.grid.now) g.L.Lane.code c.args.y c.requires.profile c.advance.new.self
+    (round g at) c.tell.new.self (lower g at) c.find_several.new.several (sized g at) (tells g at)
     (columns g at) (listed g at)
 
 pub returns-clause-descended : goal.returns-clause-descended
@@ -84,7 +86,8 @@ returns-clause-descended g c =
       };
       rows = round g at;
       descends = subst (λ (ds : List Descent). Descends m side (λ u. u.y ≡ c.args.y) [] (take count ds)) (sym kept)
-          (descends_all m side (g.met.G.Heights.whole c.args.grid.now) g.L.Lane.code c.args.y c.requires.profile c.advance.new.self (round g at) c.tell.new.self (lower g at) c.find_several.new.several (sized g at) (tells g at)
+          (descends_all m side (g.met.G.Heights.whole c.args.grid.now) g.L.Lane.code c.args.y c.requires.profile c.advance.new.self (round g at) c.tell.new.self
+          (lower g at) c.find_several.new.several (sized g at) (tells g at)
           (columns g at) (listed g at) (take count room) c.descend_columns-self.ensures.descends);
       few = (let few = c.descend_columns-self.ensures.few in let listed = (listed g at).few in let marks = sized g at in omega (arith, few, listed, marks));
     }

@@ -21,7 +21,8 @@ none-there g c =
     ]
 
 pub overflow_cast-len : goal.overflow_cast-len
-overflow_cast-len g c = (let few = indexed-few c.args.self.now.slots.items c.args.self.now.borders.items c.requires.indexed in omega (arith, few, c.requires.room, c.len-2.ensures, c.args.self.now.borders.ok.0))
+overflow_cast-len g c = (let few = indexed-few c.args.self.now.slots.items c.args.self.now.borders.items c.requires.indexed in omega
+    (arith, few, c.requires.room, c.len-2.ensures, c.args.self.now.borders.ok.0))
 
 pub returns-clause-adds : goal.returns-clause-adds
 returns-clause-adds g c = inr (record { none = none-there g (goal.at.returns-clause-adds g c).In_ok-push; is = c.in_ok-push.ensures.items })

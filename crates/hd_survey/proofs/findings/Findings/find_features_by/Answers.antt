@@ -7,5 +7,13 @@ pub features-requires-clause-findings : goal.features-requires-clause-findings
 features-requires-clause-findings g c =
     let m = g.G.Heights.map c.args.grid.now in
     let side = g.S.Side.NAME in
-    let before : Found = record { sizes = c.self.inside.sizes; merges = c.self.inside.merges; kept = c.self.inside.kept; pruned = c.self.inside.pruned; features = c.self.inside.features; regions = c.self.inside.regions } in
+    let before : Found = record {
+      sizes = c.self.inside.sizes;
+      merges = c.self.inside.merges;
+      kept = c.self.inside.kept;
+      pruned = c.self.inside.pruned;
+      features =
+          c.self.inside.features;
+      regions = c.self.inside.regions;
+    } in
     without_features m side before (subst (AreFindings m side) (sym c.self.view_is) c.requires.findings)

@@ -9,7 +9,15 @@ pub returns-clause-findings : goal.returns-clause-findings
 returns-clause-findings g c =
     let m = g.G.Heights.map c.args.grid.now in
     let side = g.S.Side.NAME in
-    let before : Found = record { sizes = c.self-2.inside.sizes; merges = c.self-2.inside.merges; kept = c.self-2.inside.kept; pruned = c.self-2.inside.pruned; features = c.self-2.inside.features; regions = c.self-2.inside.regions } in
+    let before : Found = record {
+      sizes = c.self-2.inside.sizes;
+      merges = c.self-2.inside.merges;
+      kept = c.self-2.inside.kept;
+      pruned = c.self-2.inside.pruned;
+      features =
+          c.self-2.inside.features;
+      regions = c.self-2.inside.regions;
+    } in
     let still : AreFindings m side c.if-is_some.self = elim c.if-is_some.branch [
       | then-is_some+in_ok-find_merges w ↦ subst (AreFindings m side) (sym w.self-is) w.find_merges.ensures.findings
       | else-is_some w ↦ subst (AreFindings m side) (sym w.self-is) c.requires.findings

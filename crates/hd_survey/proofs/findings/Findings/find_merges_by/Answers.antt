@@ -8,7 +8,15 @@ pub returns-in_ok-merges-clause-findings : goal.returns-in_ok-merges-clause-find
 returns-in_ok-merges-clause-findings g c =
     let m = g.V.SideView.map c.args.view.now in
     let side = g.S.Side.NAME in
-    let before : Found = record { sizes = c.self.inside.sizes; merges = c.self.inside.merges; kept = c.self.inside.kept; pruned = c.self.inside.pruned; features = c.self.inside.features; regions = c.self.inside.regions } in
+    let before : Found = record {
+      sizes = c.self.inside.sizes;
+      merges = c.self.inside.merges;
+      kept = c.self.inside.kept;
+      pruned = c.self.inside.pruned;
+      features =
+          c.self.inside.features;
+      regions = c.self.inside.regions;
+    } in
     let were : AreFindings m side before = subst (AreFindings m side) (sym c.self.view_is) c.requires in
     let are = with_merges m side before c.in_ok-merges.field-0 were c.in_ok-merges.ensures in
     elim c.match-self.branch [

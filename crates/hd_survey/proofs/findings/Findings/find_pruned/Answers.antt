@@ -7,5 +7,13 @@ pub pruned_side-requires : goal.pruned_side-requires
 pruned_side-requires g c =
     let m = g.G.Heights.map c.args.grid.now in
     let side = g.S.Side.NAME in
-    let before : Found = record { sizes = c.self.inside.sizes; merges = c.self.inside.merges; kept = c.self.inside.kept; pruned = c.self.inside.pruned; features = c.self.inside.features; regions = c.self.inside.regions } in
+    let before : Found = record {
+      sizes = c.self.inside.sizes;
+      merges = c.self.inside.merges;
+      kept = c.self.inside.kept;
+      pruned = c.self.inside.pruned;
+      features =
+          c.self.inside.features;
+      regions = c.self.inside.regions;
+    } in
     without_pruned m side before (subst (AreFindings m side) (sym c.self.view_is) c.requires)

@@ -10,9 +10,23 @@ pub returns-in_ok-sizes-clause-findings : goal.returns-in_ok-sizes-clause-findin
 returns-in_ok-sizes-clause-findings g c =
     let m = g.V.SideView.map c.args.view.now in
     let side = g.S.Side.NAME in
-    let before : Found = record { sizes = c.self.inside.sizes; merges = c.self.inside.merges; kept = c.self.inside.kept; pruned = c.self.inside.pruned; features = c.self.inside.features; regions = c.self.inside.regions } in
+    let before : Found = record {
+      sizes = c.self.inside.sizes;
+      merges = c.self.inside.merges;
+      kept = c.self.inside.kept;
+      pruned = c.self.inside.pruned;
+      features =
+          c.self.inside.features;
+      regions = c.self.inside.regions;
+    } in
     let were : AreFindings m side before = subst (AreFindings m side) (sym c.self.view_is) c.requires in
-    let are = with_sizes m side before c.in_ok-sizes.field-0 were (record { are = sizes_by_roots m side c.in_ok-sizes.field-0 (g.met.V.SideView.whole c.args.view.now) c.in_ok-sizes.ensures; by_roots = c.in_ok-sizes.ensures; inside = sizes_inside m side c.in_ok-sizes.field-0 (g.met.V.SideView.whole c.args.view.now) c.in_ok-sizes.ensures }) in
+    let are = with_sizes m side before c.in_ok-sizes.field-0 were (record {
+      are = sizes_by_roots m side c.in_ok-sizes.field-0
+          (g.met.V.SideView.whole c.args.view.now) c.in_ok-sizes.ensures;
+      by_roots = c.in_ok-sizes.ensures;
+      inside = sizes_inside m side c.in_ok-sizes.field-0
+          (g.met.V.SideView.whole c.args.view.now) c.in_ok-sizes.ensures;
+    }) in
     elim c.match-self.branch [
       | in-Some-1 w ↦ subst (AreFindings m side) (sym w.self-is) are
       | in-None-1 w ↦ subst (AreFindings m side) (sym w.self-is) are

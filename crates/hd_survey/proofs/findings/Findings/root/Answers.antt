@@ -7,7 +7,15 @@ pub root_at-requires-clause-regions : goal.root_at-requires-clause-regions
 root_at-requires-clause-regions g c =
     let m = g.G.Heights.map c.args.grid.now in
     let side = g.S.Side.NAME in
-    let before : Found = record { sizes = c.self.inside.sizes; merges = c.self.inside.merges; kept = c.self.inside.kept; pruned = c.self.inside.pruned; features = c.self.inside.features; regions = c.self.inside.regions } in
+    let before : Found = record {
+      sizes = c.self.inside.sizes;
+      merges = c.self.inside.merges;
+      kept = c.self.inside.kept;
+      pruned = c.self.inside.pruned;
+      features =
+          c.self.inside.features;
+      regions = c.self.inside.regions;
+    } in
     let were : AreFindings m side before = subst (AreFindings m side) (sym c.self.view_is) c.requires.findings in
     were.regions c.in-Some.regions c.in-Some.is
 
@@ -15,6 +23,14 @@ pub returns-clause-findings : goal.returns-clause-findings
 returns-clause-findings g c =
     let m = g.G.Heights.map c.args.grid.now in
     let side = g.S.Side.NAME in
-    let before : Found = record { sizes = c.self.inside.sizes; merges = c.self.inside.merges; kept = c.self.inside.kept; pruned = c.self.inside.pruned; features = c.self.inside.features; regions = c.self.inside.regions } in
+    let before : Found = record {
+      sizes = c.self.inside.sizes;
+      merges = c.self.inside.merges;
+      kept = c.self.inside.kept;
+      pruned = c.self.inside.pruned;
+      features =
+          c.self.inside.features;
+      regions = c.self.inside.regions;
+    } in
     let were : AreFindings m side before = subst (AreFindings m side) (sym c.self.view_is) c.requires.findings in
     with_regions m side before c.in_ok-regions.regions were c.in_ok-regions.ensures

@@ -17,5 +17,6 @@ returns g c =
     let m = g.G.Heights.map c.self.inside.grid.now in
     let side = g.S.Side.NAME in
     IfOk-weaker c.into_sizes.result _ _
-    (λ list are. subst (λ grid. AreSizesByRoots (g.G.Heights.map grid) side list) c.self.view_is (sizes_numbered m side c.self.inside.regions list (g.met.G.Heights.whole c.self.inside.grid.now) c.self.invariant are))
+    (λ list are. subst (λ grid. AreSizesByRoots (g.G.Heights.map grid) side list) c.self.view_is
+    (sizes_numbered m side c.self.inside.regions list (g.met.G.Heights.whole c.self.inside.grid.now) c.self.invariant are))
     c.into_sizes.ensures

@@ -14,7 +14,9 @@ returns g c =
     let side = g.S.Side.NAME in
     let regions = c.self.inside.regions in
     let pits : regions.pits ≡ pit_ranks m (roots_of regions) =
-    pits-unique m side regions.pits (pit_ranks m (roots_of regions)) c.self.invariant.pits (ranks_pits m side (roots_of regions) (g.met.G.Heights.whole c.self.inside.grid.now) c.self.invariant.roots) in
+    pits-unique m side regions.pits (pit_ranks m (roots_of regions)) c.self.invariant.pits
+    (ranks_pits m side (roots_of regions) (g.met.G.Heights.whole c.self.inside.grid.now) c.self.invariant.roots) in
     IfOk-weaker c.region_tallies.result _ _
-    (λ list are. subst (λ grid. AreRegionTallies (g.G.Heights.map grid) side list) c.self.view_is (record { roots = roots_of regions; regions = c.self.invariant.roots; are = are ∙ ap (λ (ps : List Rank). map (region_tally m (roots_of regions)) ps) pits }))
+    (λ list are. subst (λ grid. AreRegionTallies (g.G.Heights.map grid) side list) c.self.view_is
+    (record { roots = roots_of regions; regions = c.self.invariant.roots; are = are ∙ ap (λ (ps : List Rank). map (region_tally m (roots_of regions)) ps) pits }))
     c.region_tallies.ensures

@@ -22,11 +22,13 @@ returns-clause-origin g c =
     let s = c.args.self.now in
     let m : Map = g.G.Heights.map s.grid in
     let other : c.args.adjacency ≡ m.adjacency → ⊥ = search rules in
-    ComesFrom-setting m (g.G.Heights.map c.set_adjacency.new.self) s.tiling.side s.changes s.stamps.items c.touch_all.new.stamps.items s.numbered c.touch_all.ensures c.args.adjacency c.set_adjacency.ensures.sets other
+    ComesFrom-setting m (g.G.Heights.map c.set_adjacency.new.self) s.tiling.side s.changes s.stamps.items c.touch_all.new.stamps.items s.numbered c.touch_all.ensures
+    c.args.adjacency c.set_adjacency.ensures.sets other
 
 pub returns-clause-touched : goal.returns-clause-touched
 returns-clause-touched g c =
     let s = c.args.self.now in
     let m : Map = g.G.Heights.map s.grid in
     let other : c.args.adjacency ≡ m.adjacency → ⊥ = search rules in
-    TouchesAll-setting m (g.G.Heights.map c.set_adjacency.new.self) s.tiling.side s.changes s.stamps.items c.touch_all.new.stamps.items s.numbered c.touch_all.ensures c.args.adjacency c.set_adjacency.ensures.sets other
+    TouchesAll-setting m (g.G.Heights.map c.set_adjacency.new.self) s.tiling.side s.changes s.stamps.items c.touch_all.new.stamps.items s.numbered c.touch_all.ensures
+    c.args.adjacency c.set_adjacency.ensures.sets other

@@ -20,7 +20,8 @@ returns-then-touch_changes-clause-count g c =
     let s = c.args.self.now in
     let m : Map = g.G.Heights.map s.grid in
     let differs = SomeChanges-differs m (g.G.Heights.map c.set_heights.new.self) s.tiling.side s.changes s.stamps.items c.touch_changes.new.stamps.items s.numbered (g.met.G.Heights.whole s.grid)
-    c.args.y (values_of g.L.Lane.code c.args.row.now) s.tiling.size.points (ap (λ (z : Size). z.points) s.same_size) c.set_heights.ensures.sets c.touch_changes.ensures.stamped c.requires.profile c.if-touch_changes.ensures.some in
+    c.args.y (values_of g.L.Lane.code c.args.row.now) s.tiling.size.points (ap (λ (z : Size). z.points) s.same_size) c.set_heights.ensures.sets c.touch_changes.ensures.stamped
+    c.requires.profile c.if-touch_changes.ensures.some in
     record { later = omega arith; once = omega arith; unchanged = λ e. absurd (differs e) }
 
 pub returns-then-touch_changes-clause-touched : goal.returns-then-touch_changes-clause-touched
@@ -28,12 +29,14 @@ returns-then-touch_changes-clause-touched g c =
     let s = c.args.self.now in
     let m : Map = g.G.Heights.map s.grid in
     TouchesProfile-profile m (g.G.Heights.map c.set_heights.new.self) s.tiling.side s.changes s.stamps.items c.touch_changes.new.stamps.items s.numbered (g.met.G.Heights.whole s.grid)
-    c.args.y (values_of g.L.Lane.code c.args.row.now) s.tiling.size.points (ap (λ (z : Size). z.points) s.same_size) c.set_heights.ensures.sets c.touch_changes.ensures.stamped c.requires.profile c.if-touch_changes.ensures.some
+    c.args.y (values_of g.L.Lane.code c.args.row.now) s.tiling.size.points (ap (λ (z : Size). z.points) s.same_size) c.set_heights.ensures.sets c.touch_changes.ensures.stamped
+    c.requires.profile c.if-touch_changes.ensures.some
 
 pub returns-else-touch_changes-clause-sets : goal.returns-else-touch_changes-clause-sets
 returns-else-touch_changes-clause-sets g c =
     let s = c.args.self.now in
-    with_heights-stands (g.G.Heights.map s.grid) c.args.y (values_of g.L.Lane.code c.args.row.now) s.tiling.size.points (g.met.G.Heights.whole s.grid) (ap (λ (z : Size). z.points) s.same_size) c.if-touch_changes.ensures.none
+    with_heights-stands (g.G.Heights.map s.grid) c.args.y (values_of g.L.Lane.code c.args.row.now) s.tiling.size.points (g.met.G.Heights.whole s.grid)
+    (ap (λ (z : Size). z.points) s.same_size) c.if-touch_changes.ensures.none
 
 pub returns-else-touch_changes-clause-touched : goal.returns-else-touch_changes-clause-touched
 returns-else-touch_changes-clause-touched g c =

@@ -33,7 +33,8 @@ returns-clause-origin g c =
     let m : Map = g.G.Heights.map s.grid in
     let sets = c.in_ok-set_mask.ensures.sets in
     let other : c.args.masked ≡ mask_at m c.args.at → ⊥ = search rules in
-    ComesFrom-mask m (g.G.Heights.map c.set_mask.new.self) s.tiling.side s.changes s.stamps.items c.touch_round.new.stamps.items s.numbered s.tiling.size c.args.at s.same_size (g.met.G.Heights.whole s.grid) sets.0 c.touch_round.ensures c.args.masked sets.1 other
+    ComesFrom-mask m (g.G.Heights.map c.set_mask.new.self) s.tiling.side s.changes s.stamps.items c.touch_round.new.stamps.items s.numbered s.tiling.size c.args.at s.same_size
+    (g.met.G.Heights.whole s.grid) sets.0 c.touch_round.ensures c.args.masked sets.1 other
 
 pub returns-clause-touched : goal.returns-clause-touched
 returns-clause-touched g c =
@@ -41,4 +42,5 @@ returns-clause-touched g c =
     let m : Map = g.G.Heights.map s.grid in
     let sets = c.in_ok-set_mask.ensures.sets in
     let other : c.args.masked ≡ mask_at m c.args.at → ⊥ = search rules in
-    TouchesRound-mask m (g.G.Heights.map c.set_mask.new.self) s.tiling.side s.changes s.stamps.items c.touch_round.new.stamps.items s.numbered s.tiling.size c.args.at s.same_size (g.met.G.Heights.whole s.grid) sets.0 c.touch_round.ensures c.args.masked sets.1 other
+    TouchesRound-mask m (g.G.Heights.map c.set_mask.new.self) s.tiling.side s.changes s.stamps.items c.touch_round.new.stamps.items s.numbered s.tiling.size c.args.at s.same_size
+    (g.met.G.Heights.whole s.grid) sets.0 c.touch_round.ensures c.args.masked sets.1 other

@@ -13,6 +13,7 @@ pub overflow_add-result : goal.overflow_add-result
 overflow_add-result c =
     let tiling = c.args.self in
     let side = tiling.tile_side.least in
-    let below : c.part_of.result * tiling.across + c.part_of-2.result < tile_count tiling.size tiling.side = rw (c.part_of.ensures, c.part_of-2.ensures, tiling.row) (tile_of-inside tiling.size tiling.side c.args.at (omega (arith, side)) c.requires) in
+    let below : c.part_of.result * tiling.across + c.part_of-2.result < tile_count tiling.size tiling.side = rw (c.part_of.ensures, c.part_of-2.ensures, tiling.row)
+    (tile_of-inside tiling.size tiling.side c.args.at (omega (arith, side)) c.requires) in
     let few = tile_count-few tiling.size tiling.side side tiling.limits in
     omega (arith, below, few)
