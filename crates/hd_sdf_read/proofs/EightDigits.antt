@@ -4,56 +4,74 @@ use Rattle.std.specs.Prelude.{bit_and, replicate}
 use Rattle.std.specs.Int.Digits.{AllBelowBase, number_from_digits}
 use Rattle.std.specs.Simd.Lanes.{number_l}
 use Rattle.std.proofs.Math.Arith.{digits_div, digits_mod, mod-mul}
-use Rattle.std.proofs.Math.Nat.{add-zero, mod-eq_of_lt, mul-div_cancel, mul-mod_left, pow-suc, zero-mod}
+use Rattle.std.proofs.Math.Nat.{add-zero, mul-div_cancel, mul-mod_left, pow-suc, zero-mod}
 use Rattle.std.proofs.lemmas.List.{length-replicate, length-take-le}
 use Rattle.std.proofs.lemmas.Nat.{and_block, and_mask, pow-add}
 
--- the mask keeps the bytes 0 and 4
-masked : (x : ℕ) → bit_and x 1095216660735 ≡ x / 2 ^ 32 % 256 * 2 ^ 32 + x % 2 ^ 32 % 256
-masked x =
-    let parts : x ≡ x / 2 ^ 32 * 2 ^ 32 + x % 2 ^ 32 = omega arith in
-    ap (λ y. bit_and y 1095216660735) parts ∙ and_block 32 (x / 2 ^ 32) 255 (x % 2 ^ 32) 255 (omega arith) (omega arith)
-    ∙ (λ i. and_mask (x / 2 ^ 32) 8 i * 2 ^ 32 + and_mask (x % 2 ^ 32) 8 i)
+-- a mask keeps the even bytes of four
+even_bytes : (x : ℕ) → bit_and x 16711935 ≡ x / 2 ^ 16 % 256 * 2 ^ 16 + x % 2 ^ 16 % 256
+even_bytes x =
+    let parts : x ≡ x / 2 ^ 16 * 2 ^ 16 + x % 2 ^ 16 = omega arith in
+    ap (λ y. bit_and y 16711935) parts ∙ and_block 16 (x / 2 ^ 16) 255 (x % 2 ^ 16) 255 (omega arith) (omega arith)
+    ∙ (λ i. and_mask (x / 2 ^ 16) 8 i * 2 ^ 16 + and_mask (x % 2 ^ 16) 8 i)
+
+-- a mask keeps the even bytes of eight: p, q, r and s
+even_of_eight : (p q r s x y z : ℕ) → p < 100 → q < 100 → r < 100 → s < 100 → x < 100 → y < 100 → z < 100 → (pairs : ℕ)
+    → pairs ≡ p + 2 ^ 8 * x + 2 ^ 16 * q + 2 ^ 24 * y + 2 ^ 32 * r + 2 ^ 40 * z + 2 ^ 48 * s
+    → bit_and pairs 71777214294589695 ≡ p + 2 ^ 16 * q + 2 ^ 32 * r + 2 ^ 48 * s
+even_of_eight p q r s x y z P Q R S X Y Z pairs is =
+    let high = s * 2 ^ 16 + (z * 256 + r) in
+    let low = (y * 256 + q) * 2 ^ 16 + (x * 256 + p) in
+    let parts : pairs ≡ high * 2 ^ 32 + low = omega arith in
+    let below : low < 2 ^ 32 = omega arith in
+    let a : high / 2 ^ 16 % 256 ≡ s = omega arith in
+    let b : high % 2 ^ 16 % 256 ≡ r = omega arith in
+    let c : low / 2 ^ 16 % 256 ≡ q = omega arith in
+    let d : low % 2 ^ 16 % 256 ≡ p = omega arith in
+    ap (λ y. bit_and y 71777214294589695) parts ∙ and_block 32 high 16711935 low 16711935 below (omega arith)
+    ∙ rw (even_bytes high, even_bytes low, a, b, c, d) (omega arith)
+
+-- a mask keeps the even pairs of bytes of eight: p and r
+even_pairs : (p q r : ℕ) → p < 10000 → q < 10000 → r < 10000 → bit_and (p + 2 ^ 16 * q + 2 ^ 32 * r) 281470681808895 ≡ p + 2 ^ 32 * r
+even_pairs p q r P Q R =
+    let parts : p + 2 ^ 16 * q + 2 ^ 32 * r ≡ r * 2 ^ 32 + (q * 2 ^ 16 + p) = omega arith in
+    let low : (q * 2 ^ 16 + p) % 2 ^ 16 ≡ p = omega arith in
+    let high : r % 2 ^ 16 ≡ r = omega arith in
+    ap (λ y. bit_and y 281470681808895) parts ∙ and_block 32 r 65535 (q * 2 ^ 16 + p) 65535 (omega arith) (omega arith)
+    ∙ rw (and_mask r 16, and_mask (q * 2 ^ 16 + p) 16, low, high) (omega arith)
+
+-- a product puts a tenfold of each digit into the next byte
+in_pairs : (a b c d f g i j : ℕ) → a < 10 → b < 10 → c < 10 → d < 10 → f < 10 → g < 10 → i < 10 → j < 10 → (word : ℕ)
+    → word ≡ a + 2 ^ 8 * b + 2 ^ 16 * c + 2 ^ 24 * d + 2 ^ 32 * f + 2 ^ 40 * g + 2 ^ 48 * i + 2 ^ 56 * j
+    → word * 2561 % 2 ^ 64 / 2 ^ 8
+    ≡ 10 * a + b + 2 ^ 8 * (10 * b + c) + 2 ^ 16 * (10 * c + d) + 2 ^ 24 * (10 * d + f) + 2 ^ 32 * (10 * f + g) + 2 ^ 40 * (10 * g + i) + 2 ^ 48 * (10 * i + j)
+in_pairs a b c d f g i j A B C D F G I J word is =
+    let top = 10 * a + b + 2 ^ 8 * (10 * b + c) + 2 ^ 16 * (10 * c + d) + 2 ^ 24 * (10 * d + f) + 2 ^ 32 * (10 * f + g) + 2 ^ 40 * (10 * g + i) + 2 ^ 48 * (10 * i + j) in
+    let parts : word * 2561 ≡ 10 * j * 2 ^ 64 + (top * 2 ^ 8 + a) = omega arith in
+    let small : top * 2 ^ 8 + a < 2 ^ 64 = omega arith in
+    let low : a < 2 ^ 8 = omega arith in
+    ap (λ x. x % 2 ^ 64 / 2 ^ 8) parts ∙ ap (λ x. x / 2 ^ 8) (digits_mod (10 * j) small) ∙ digits_div top low
+
+-- a product puts a hundredfold of each pair into the next one
+in_fours : (p q r s : ℕ) → p < 100 → q < 100 → r < 100 → s < 100
+    → (p + 2 ^ 16 * q + 2 ^ 32 * r + 2 ^ 48 * s) * 6553601 % 2 ^ 64 / 2 ^ 16 ≡ 100 * p + q + 2 ^ 16 * (100 * q + r) + 2 ^ 32 * (100 * r + s)
+in_fours p q r s P Q R S =
+    let top = 100 * p + q + 2 ^ 16 * (100 * q + r) + 2 ^ 32 * (100 * r + s) in
+    let parts : (p + 2 ^ 16 * q + 2 ^ 32 * r + 2 ^ 48 * s) * 6553601 ≡ 100 * s * 2 ^ 64 + (top * 2 ^ 16 + p) = omega arith in
+    let small : top * 2 ^ 16 + p < 2 ^ 64 = omega arith in
+    let low : p < 2 ^ 16 = omega arith in
+    ap (λ x. x % 2 ^ 64 / 2 ^ 16) parts ∙ ap (λ x. x / 2 ^ 16) (digits_mod (100 * s) small) ∙ digits_div top low
+
+in_eight : (p r : ℕ) → p < 10000 → r < 10000 → (p + 2 ^ 32 * r) * 42949672960001 % 2 ^ 64 / 2 ^ 32 ≡ 10000 * p + r
+in_eight p r P R =
+    let parts : (p + 2 ^ 32 * r) * 42949672960001 ≡ 10000 * r * 2 ^ 64 + ((10000 * p + r) * 2 ^ 32 + p) = omega arith in
+    let small : (10000 * p + r) * 2 ^ 32 + p < 2 ^ 64 = omega arith in
+    let low : p < 2 ^ 32 = omega arith in
+    ap (λ x. x % 2 ^ 64 / 2 ^ 32) parts ∙ ap (λ x. x / 2 ^ 32) (digits_mod (10000 * r) small) ∙ digits_div (10000 * p + r) low
 
 -- what is computed of a word
 abbrev worth : ℕ → ℕ
-worth word =
-    let pairs = (word * 10 % 2 ^ 64 + word / 256) % 2 ^ 64 in
-    (bit_and pairs 1095216660735 * 4294967296000100 % 2 ^ 64 + bit_and (pairs / 65536) 1095216660735 * 42949672960001 % 2 ^ 64) % 2 ^ 64 / 2 ^ 32
-
-is_byte : (x : ℕ) → x < 100 → x < 256
-is_byte x small = omega arith
-
-first : (p r : ℕ) → p < 100 → r < 100 → (r * 2 ^ 32 + p) * 4294967296000100 % 2 ^ 64 ≡ (p * 1000000 + r * 100) * 2 ^ 32 + p * 100
-first p r P R = omega arith
-
-second : (q s : ℕ) → q < 100 → s < 100 → (s * 2 ^ 32 + q) * 42949672960001 % 2 ^ 64 ≡ (q * 10000 + s) * 2 ^ 32 + q
-second q s Q S = omega arith
-
-sum : (p q r s : ℕ) → p < 100 → q < 100 → r < 100 → s < 100
-    → ((p * 1000000 + r * 100) * 2 ^ 32 + p * 100 + ((q * 10000 + s) * 2 ^ 32 + q)) % 2 ^ 64 / 2 ^ 32 ≡ p * 1000000 + q * 10000 + r * 100 + s
-sum p q r s P Q R S =
-    let all = (p * 1000000 + r * 100) * 2 ^ 32 + p * 100 + ((q * 10000 + s) * 2 ^ 32 + q) in
-    let small : all < 2 ^ 64 = omega arith in
-    let parts : all ≡ (p * 1000000 + q * 10000 + r * 100 + s) * 2 ^ 32 + (p * 100 + q) = omega arith in
-    let low : p * 100 + q < 2 ^ 32 = omega arith in
-    ap (λ x. x / 2 ^ 32) (mod-eq_of_lt small ∙ parts) ∙ digits_div _ low
-
--- p, q, r and s are the four pairs of digits, and x, y, z and w the bytes between them
-combined : (p q r s x y z w pairs : ℕ) → p < 100 → q < 100 → r < 100 → s < 100 → x < 100 → y < 100 → z < 100 → w < 100
-    → pairs ≡ p + 2 ^ 8 * x + 2 ^ 16 * q + 2 ^ 24 * y + 2 ^ 32 * r + 2 ^ 40 * z + 2 ^ 48 * s + 2 ^ 56 * w
-    → (bit_and pairs 1095216660735 * 4294967296000100 % 2 ^ 64 + bit_and (pairs / 65536) 1095216660735 * 42949672960001 % 2 ^ 64) % 2 ^ 64 / 2 ^ 32
-    ≡ p * 1000000 + q * 10000 + r * 100 + s
-combined p q r s x y z w pairs P Q R S X Y Z W e =
-    let high : pairs / 2 ^ 32 ≡ (z + 2 ^ 8 * s + 2 ^ 16 * w) * 256 + r = omega arith in
-    let low : pairs % 2 ^ 32 ≡ (x + 2 ^ 8 * q + 2 ^ 16 * y) * 256 + p = omega arith in
-    let down : pairs / 65536 ≡ (((w * 256) + s) * 2 ^ 32) + ((y + 2 ^ 8 * r + 2 ^ 16 * z) * 256 + q) = omega arith in
-    let a : pairs / 2 ^ 32 % 256 ≡ r = rw high (digits_mod _ (is_byte r R)) in
-    let b : pairs % 2 ^ 32 % 256 ≡ p = rw low (digits_mod _ (is_byte p P)) in
-    let part : (y + 2 ^ 8 * r + 2 ^ 16 * z) * 256 + q < 2 ^ 32 = omega arith in
-    let c : pairs / 65536 / 2 ^ 32 % 256 ≡ s = rw (down, digits_div _ part) (digits_mod _ (is_byte s S)) in
-    let d : pairs / 65536 % 2 ^ 32 % 256 ≡ q = rw (down, digits_mod _ part) (digits_mod _ (is_byte q Q)) in
-    rw (masked pairs, masked (pairs / 65536), a, b, c, d, first p r P R, second q s Q S) (sum p q r s P Q R S)
+worth word = bit_and (bit_and (word * 2561 % 2 ^ 64 / 2 ^ 8) 71777214294589695 * 6553601 % 2 ^ 64 / 2 ^ 16) 281470681808895 * 42949672960001 % 2 ^ 64 / 2 ^ 32
 
 -- it is the number that eight digits write
 pub eight_is : (ds : List ℕ) (word : ℕ) → length ds ≡ 8 → AllBelowBase 10 ds → word ≡ number_l 256 ds → worth word ≡ number_from_digits 10 ds
@@ -67,16 +85,13 @@ eight_is (a ∷ b ∷ c ∷ d ∷ f ∷ g ∷ []) word long below e = absurd (om
 eight_is (a ∷ b ∷ c ∷ d ∷ f ∷ g ∷ i ∷ []) word long below e = absurd (omega arith)
 eight_is (a ∷ b ∷ c ∷ d ∷ f ∷ g ∷ i ∷ j ∷ k ∷ ds) word long below e = absurd (omega arith)
 eight_is (a ∷ b ∷ c ∷ d ∷ f ∷ g ∷ i ∷ j ∷ []) word long below e =
-    let rest = b + 256 * (c + 256 * (d + 256 * (f + 256 * (g + 256 * (i + 256 * (j + 256 * 0)))))) in
-    let parts : word ≡ rest * 256 + a = omega arith in
-    let small : a < 256 = omega arith in
-    let shifted : word / 256 ≡ rest = ap (λ x. x / 256) parts ∙ digits_div rest small in
-    let tens : word * 10 < 2 ^ 64 = omega arith in
-    let both : word * 10 + rest < 2 ^ 64 = omega arith in
-    let pairs : (word * 10 % 2 ^ 64 + word / 256) % 2 ^ 64
-    ≡ 10 * a + b + 2 ^ 8 * (10 * b + c) + 2 ^ 16 * (10 * c + d) + 2 ^ 24 * (10 * d + f) + 2 ^ 32 * (10 * f + g) + 2 ^ 40 * (10 * g + i) + 2 ^ 48 * (10 * i + j) + 2 ^ 56 * (10 * j) =
-    rw (mod-eq_of_lt tens, shifted, mod-eq_of_lt both) (omega arith) in
-    combined _ _ _ _ _ _ _ _ _ (omega arith) (omega arith) (omega arith) (omega arith) (omega arith) (omega arith) (omega arith) (omega arith) pairs ∙ omega arith
+    let is : word ≡ a + 2 ^ 8 * b + 2 ^ 16 * c + 2 ^ 24 * d + 2 ^ 32 * f + 2 ^ 40 * g + 2 ^ 48 * i + 2 ^ 56 * j = omega arith in
+    let pairs = in_pairs a b c d f g i j (omega arith) (omega arith) (omega arith) (omega arith) (omega arith) (omega arith) (omega arith) (omega arith) word is in
+    let even = even_of_eight (10 * a + b) (10 * c + d) (10 * f + g) (10 * i + j) (10 * b + c) (10 * d + f) (10 * g + i)
+    (omega arith) (omega arith) (omega arith) (omega arith) (omega arith) (omega arith) (omega arith) (word * 2561 % 2 ^ 64 / 2 ^ 8) (pairs ∙ omega arith) in
+    let fours = in_fours (10 * a + b) (10 * c + d) (10 * f + g) (10 * i + j) (omega arith) (omega arith) (omega arith) (omega arith) in
+    let two = even_pairs (100 * (10 * a + b) + (10 * c + d)) (100 * (10 * c + d) + (10 * f + g)) (100 * (10 * f + g) + (10 * i + j)) (omega arith) (omega arith) (omega arith) in
+    rw (even, fours, two, in_eight (100 * (10 * a + b) + (10 * c + d)) (100 * (10 * f + g) + (10 * i + j)) (omega arith) (omega arith)) (omega arith)
 
 -- zeros before digits
 padded : (k : ℕ) (ds : List ℕ) → AllBelowBase 10 ds → AllBelowBase 10 (replicate k 0 ++ ds) × (number_from_digits 10 (replicate k 0 ++ ds) ≡ number_from_digits 10 ds)
