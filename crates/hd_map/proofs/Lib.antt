@@ -19,6 +19,7 @@ pub mod Trees
 pub mod Prunings
 pub mod PositionOrder
 pub mod Presences
+mod SeenRows
 pub mod Ranks
 pub mod Lanes
 mod Filled

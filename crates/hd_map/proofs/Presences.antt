@@ -1,5 +1,5 @@
 -- The present points among the first ones by index.
-use Rattle.std.proofs.Common.{◌≡◌, ◌≤◌, ◌+◌, ◌++◌, ◌∙◌, ℕ, ℤ, List, [], ◌∷◌, map, Option, Some, None, refl, ap, sym, subst, arith, append-nil}
+use Rattle.std.proofs.Common.{◌≡◌, ◌≤◌, ◌+◌, ◌++◌, ◌∙◌, ℕ, zero, suc, ℤ, List, [], ◌∷◌, length, map, Option, Some, None, refl, ap, sym, subst, arith, append-nil}
 use Rattle.std.specs.Prelude.{fold}
 use Rattle.std.specs.Int.{int_min, int_max}
 use Rattle.std.specs.List.{cons_option, filter_map, range_with_len}
@@ -44,3 +44,13 @@ presence_more m n seen next height is here with_it =
 pub presence_few : (n : ℕ) (seen next : Presence) (height : Option ℤ) → seen.count ≤ n → next ≡ presence_with seen height → next.count ≤ n + 1
 presence_few n seen next None few with_it = rw with_it (omega (arith, few))
 presence_few n seen next (Some height) few with_it = rw with_it (omega (arith, few))
+
+-- no more than n heights
+pub heights_below-few : (m : Map) (n : ℕ) → length (heights_below m n) ≤ n
+heights_below-few m zero = omega arith
+heights_below-few m (suc n) = rw (let more : suc n ≡ n + 1 = omega arith in ap (λ k. length (heights_below m k)) more ∙ ap length (heights_more m n))
+    (one (heights_below m n) (height_at m (position_at m.size n)) (heights_below-few m n))
+  where
+    one : (heights : List ℤ) (height : Option ℤ) → length heights ≤ n → length (heights ++ cons_option height []) ≤ suc n
+    one heights None few = rw (append-nil heights) (omega (arith, few))
+    one heights (Some h) few = rw (length_push heights h) (omega (arith, few))

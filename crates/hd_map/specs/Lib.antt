@@ -29,5 +29,6 @@ pub mod Crossings
 pub mod Shown
 pub mod HeightRange
 pub mod Presence
+pub mod Seen
 pub mod EdgePoint
 pub mod Sums

@@ -5,6 +5,7 @@
 //! it says what else holds then.
 #![tactic(auto)]
 
+mod by_rows;
 mod cells;
 mod grid;
 mod height_range;
@@ -24,6 +25,7 @@ mod under;
 mod wide;
 mod wide_cells;
 
+pub use by_rows::presence_by_rows;
 pub use cells::Cells;
 pub use grid::{
     Grid, Heights, contains, height, index_of, is_present, position_after, position_of, rank_of,
