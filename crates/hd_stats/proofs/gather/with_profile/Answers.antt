@@ -4,7 +4,8 @@ use Rattle.hd_map.specs.declared.types.Size.{Size}
 use Rattle.hd_map.specs.Map.{InGrid, place_of}
 use Rattle.hd_map.specs.Presence.{heights_below}
 use Rattle.hd_map.proofs.Points.{place_inside}
-use Rattle.hd_stats.proofs.Gathering.{heights_below-few, heights_below-read}
+use Rattle.hd_map.proofs.Presences.{heights_below-few}
+use Rattle.hd_stats.proofs.Gathering.{heights_below-read}
 use Rattle.hd_stats.proofs.gather.with_profile.Goals as goal
 
 pub with-sum-requires : goal.with-sum-requires

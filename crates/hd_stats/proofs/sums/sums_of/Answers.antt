@@ -1,6 +1,6 @@
 use Rattle.std.proofs.Common.{arith}
 use Rattle.hd_map.specs.Map.{cell_count}
-use Rattle.hd_stats.proofs.Gathering.{heights_below-few}
+use Rattle.hd_map.proofs.Presences.{heights_below-few}
 use Rattle.hd_stats.proofs.sums.sums_of.Goals as goal
 
 pub returns-clause-small : goal.returns-clause-small
