@@ -24,7 +24,7 @@ use Rattle.hd_basin.specs.declared.frame.Frame.{Frame}
 use Rattle.hd_tiles.specs.Tile.{tiles_across}
 use Rattle.hd_tiles.proofs.TilesAlong.{tiles_along-part, part-is}
 use Rattle.hd_basin.specs.Views.{ShowSame}
-use Rattle.hd_basin.specs.Frames.{AreFilled, at_step, InFrame, FitsGrid, HoldsRound, IsRoundOnly, is_in, seen_at, cell_of, any_type, framed_map, IsPartOf, IsWindow, ShowsFrame, moved}
+use Rattle.hd_basin.specs.Frames.{AreFilled, at_step, InFrame, FitsGrid, HoldsRound, IsRoundOnly, is_in, seen_at, cell_of, any_type, framed_map, IsPartOf, IsWindow, ShowsFrame, moved, whole_frame}
 
 -- the part of a number below the count of parts times another begins below the limit
 pub part_start : (tile across limit t : ℕ) → 1 ≤ t → 1 ≤ across → tile < (limit + t - 1) / t * across → tile / across * t < limit
@@ -241,10 +241,7 @@ filled-shows m f heights fits filled = record {
 abbrev pub own_size : Frame → Size
 own_size f = record { points = f.columns; profiles = f.rows }
 
-abbrev pub own_frame : Frame → Frame
-own_frame f = record { left = 0; top = 0; columns = f.columns; rows = f.rows }
-
-pub part-window : (s : Size) (f : Frame) (heights : List (Option ℤ)) → IsWindow s f heights → 1 ≤ f.columns → 1 ≤ f.rows → IsWindow (own_size f) (own_frame f) heights
+pub part-window : (s : Size) (f : Frame) (heights : List (Option ℤ)) → IsWindow s f heights → 1 ≤ f.columns → 1 ≤ f.rows → IsWindow (own_size f) (whole_frame (own_size f)) heights
 part-window s f heights w columns rows =
     let right = w.fits.right in
     let bottom = w.fits.bottom in
@@ -260,7 +257,7 @@ part-window s f heights w columns rows =
       range = w.range;
     }
 
-pub part-shows : (s : Size) (a : Adjacency) (f : Frame) (heights : List (Option ℤ)) → FitsGrid s f → IsPartOf (framed_map s a f heights) f (framed_map (own_size f) a (own_frame f) heights)
+pub part-shows : (s : Size) (a : Adjacency) (f : Frame) (heights : List (Option ℤ)) → FitsGrid s f → IsPartOf (framed_map s a f heights) f (framed_map (own_size f) a (whole_frame (own_size f)) heights)
 part-shows s a f heights fits = record {
   fits = fits;
   columns = refl;
@@ -269,14 +266,29 @@ part-shows s a f heights fits = record {
   heights = λ q inside. (
       let column = inside.column in
       let profile = inside.profile in
-      let own : InFrame (own_frame f) q = record { left = omega arith; right = omega (arith, column); top = omega arith; bottom = omega (arith, profile) } in
+      let own : InFrame (whole_frame (own_size f)) q = record { left = omega arith; right = omega (arith, column); top = omega arith; bottom = omega (arith, profile) } in
       let within : InFrame f (moved f q) = record { left = omega arith; right = omega (arith, column); top = omega arith; bottom = omega (arith, profile) } in
       let row : q.y - 0 ≡ f.top + q.y - f.top = omega arith in
       let across : q.x - 0 ≡ f.left + q.x - f.left = omega arith in
-      framed-height (own_size f) a (own_frame f) heights q inside
-      ∙ seen-inside (own_frame f) heights q own
+      framed-height (own_size f) a (whole_frame (own_size f)) heights q inside
+      ∙ seen-inside (whole_frame (own_size f)) heights q own
       ∙ ap (λ (k : ℕ). slice_index_or heights (k * f.columns + (q.x - 0)) None) row
       ∙ ap (λ (k : ℕ). slice_index_or heights ((f.top + q.y - f.top) * f.columns + k) None) across
       ∙ sym (seen-inside f heights (moved f q) within)
       ∙ sym (framed-height s a f heights (moved f q) (frame-in_grid s f (moved f q) fits within)));
 }
+
+-- a height of such a map, by its place
+pub inset-height : (s : Size) (a : Adjacency) (heights : List (Option ℤ)) (k : ℕ) (p : Pos) → InGrid s p → k ≡ place_of s p
+    → slice_index_or heights k None ≡ height_at (framed_map s a (whole_frame s) heights) p
+inset-height s a heights k p inside at =
+    let column = inside.column in
+    let profile = inside.profile in
+    let within : InFrame (whole_frame s) p = record { left = omega arith; right = omega (arith, column); top = omega arith; bottom = omega (arith, profile) } in
+    let row : p.y - 0 ≡ p.y = omega arith in
+    let across : p.x - 0 ≡ p.x = omega arith in
+    sym (framed-height s a (whole_frame s) heights p inside
+    ∙ seen-inside (whole_frame s) heights p within
+    ∙ ap (λ (n : ℕ). slice_index_or heights (n * s.points + (p.x - 0)) None) row
+    ∙ ap (λ (n : ℕ). slice_index_or heights (p.y * s.points + n) None) across
+    ∙ ap (λ (n : ℕ). slice_index_or heights n None) (sym at))

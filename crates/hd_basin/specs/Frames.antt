@@ -59,6 +59,10 @@ framed_map s a f heights = record {
   adjacency = a;
 }
 
+-- the part that is the whole grid
+abbrev pub whole_frame : Size → Frame
+whole_frame s = record { left = 0; top = 0; columns = s.points; rows = s.profiles }
+
 -- the heights of a part that lies in the grid
 pub record IsWindow (s : Size) (f : Frame) (heights : List (Option ℤ)) : Type 0 where
   pub size : IsSize s

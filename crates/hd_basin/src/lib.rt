@@ -15,6 +15,7 @@ mod flows;
 mod frame;
 mod gather;
 mod graph;
+mod inset;
 mod inside;
 mod joined;
 mod kept;

@@ -8,6 +8,7 @@ ghost use Rattle.hd_basin.specs.Built.{IsBuilt};
 ghost use Rattle.hd_basin.specs.Parts.{IsFresh, label_of};
 
 use crate::frame::frame_of;
+use crate::inset::Inset;
 use crate::joined::joined;
 use crate::noded::noded;
 use crate::part::Part;
@@ -48,7 +49,7 @@ pub fn made<S: Side, T: Looked, L: Ledger>(
 {
     let frame = frame_of(tiling, tile);
     let window = Window::look(alloc, tiles, frame, looks)?;
-    let own = window.detached(alloc)?;
-    let part = noded::<S, Window, Window>(alloc, &window, &own, frame, tiling, tile, stamp)?;
+    let own = window.inset();
+    let part = noded::<S, Window, Inset>(alloc, &window, &own, frame, tiling, tile, stamp)?;
     joined::<S, Window, T>(alloc, tiling, parts, tiles, &window, part, tile, frame)
 }

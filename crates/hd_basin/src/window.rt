@@ -5,6 +5,7 @@ ghost use Rattle.hd_map.specs.Map.{InGrid, place_of};
 ghost use Rattle.hd_basin.specs.Frames.{AreFilled, InFrame, FitsGrid, IsPartOf, IsWindow, ShowsFrame};
 
 use crate::frame::{Frame, is_in_frame};
+use crate::inset::Inset;
 use hd_list::Memory;
 use hd_map::{Adjacency, Heights, Pos, Size};
 use hd_tiles::{Looked, Steps};
@@ -48,7 +49,7 @@ impl Heights for Window {
 }
 
 impl Window {
-    ghost use Rattle.hd_basin.specs.WindowMap.{map_of_window};
+    ghost use Rattle.hd_basin.specs.WindowMap.{map_of_inset, map_of_window};
 
     /// Looks once at each position of a part of the grid.
     pub fn look<T: Looked, L: Ledger>(
@@ -77,28 +78,19 @@ impl Window {
     }
 
     /// The heights as a map of their own, which has no other position.
-    pub fn detached(&self, alloc: Global) -> Result<Window, Memory>
+    pub fn inset(&self) -> Inset<'_>
         requires columns { 1 ≤ self.now.frame.columns }
         requires rows { 1 ≤ self.now.frame.rows }
-        ensures { IfOk result (λ w. IsPartOf (map_of_window self.now) self.now.frame (map_of_window w)) }
+        ensures { IsPartOf (map_of_window self.now) self.now.frame (map_of_inset result) }
     {
-        let Frame { columns, rows, .. } = self.frame;
-        let mut heights = Vec::with_capacity(alloc, self.heights.len())?;
-        heights.extend_from_slice(&self.heights)?;
-        Ok(Window {
+        Inset {
             size: Size {
-                points: columns,
-                profiles: rows,
+                points: self.frame.columns,
+                profiles: self.frame.rows,
             },
             adjacency: self.adjacency,
-            frame: Frame {
-                left: 0,
-                top: 0,
-                columns,
-                rows,
-            },
-            heights,
-        })
+            heights: self.heights.as_slice(),
+        }
     }
 }
 

@@ -57,10 +57,6 @@ pub returns-in_err-part-clause-looks : goal.returns-in_err-part-clause-looks
 returns-in_err-part-clause-looks g c = few c.frame_of-frame.result.columns c.frame_of-frame.result.rows c.args.tiling.side c.args.looks.now c.look.new.looks
     c.frame_of-frame.ensures.columns c.frame_of-frame.ensures.rows c.look.ensures.counted
 
-pub returns-in_err-own-clause-looks : goal.returns-in_err-own-clause-looks
-returns-in_err-own-clause-looks g c = few c.frame_of-frame.result.columns c.frame_of-frame.result.rows c.args.tiling.side c.args.looks.now c.look.new.looks
-    c.frame_of-frame.ensures.columns c.frame_of-frame.ensures.rows c.look.ensures.counted
-
 pub noded-requires-clause-holds : goal.noded-requires-clause-holds
 noded-requires-clause-holds g c = subst (λ (s : Size). HoldsRound s c.args.tiling.side c.args.tile c.frame_of-frame.result)
     (c.requires.size ∙ c.in_ok-window.ensures.shows.size) c.frame_of-frame.ensures.holds
