@@ -62,7 +62,7 @@ fn push_border(
 {
     push_between(text, side, size, line)?;
     push_across(text, size, line)?;
-    push_text(text, b"\n".as_slice())?;
+    text.push(b'\n')?;
     Ok(())
 }
 
@@ -77,9 +77,9 @@ fn push_between(
     ensures { OnOk result (text.new ≡ text.old ++ between_text side size line.now) }
 {
     push_text(text, border_word(side))?;
-    push_text(text, b" ".as_slice())?;
+    text.push(b' ')?;
     push_point(text, size, line.a)?;
-    push_text(text, b" ".as_slice())?;
+    text.push(b' ')?;
     push_point(text, size, line.b)?;
     Ok(())
 }
@@ -93,7 +93,7 @@ fn push_across(text: &mut List<u8>, size: Size, line: &BorderLine) -> Result<(),
     push_unsigned(text, line.pairs)?;
     push_text(text, b" pass ".as_slice())?;
     push_rank(text, size, line.pass)?;
-    push_text(text, b" ".as_slice())?;
+    text.push(b' ')?;
     push_text(text, pass_word(line.on_saddle))?;
     Ok(())
 }

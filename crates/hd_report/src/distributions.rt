@@ -20,10 +20,10 @@ pub fn tell_distribution(
     let mut text = List::new(alloc);
     push_text(&mut text, b"hist ".as_slice())?;
     push_unsigned(&mut text, u64::from(bins))?;
-    push_text(&mut text, b" ".as_slice())?;
+    text.push(b' ')?;
     push_text(&mut text, word)?;
     push_counts(&mut text, counts)?;
-    push_text(&mut text, b"\n".as_slice())?;
+    text.push(b'\n')?;
     Ok(text)
 }
 
@@ -42,7 +42,7 @@ fn push_all(text: &mut List<u8>, counts: &[u64]) -> Result<(), Memory>
     ensures { OnOk result (text.new ≡ text.old ++ flat_map count_text counts.now) }
 {
     'counts: for count in counts {
-        push_text(text, b" ".as_slice())?;
+        text.push(b' ')?;
         push_unsigned(text, *count)?;
     }
     Ok(())
@@ -60,7 +60,7 @@ pub fn tell_share(
     let mut text = List::new(alloc);
     push_text(&mut text, b"perc ".as_slice())?;
     push_whole(&mut text, above)?;
-    push_text(&mut text, b" ".as_slice())?;
+    text.push(b' ')?;
     push_text(&mut text, word)?;
     push_value(&mut text, value)?;
     Ok(text)

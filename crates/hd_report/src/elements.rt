@@ -29,7 +29,7 @@ pub fn list_elements(alloc: Global, lines: &[ElementLine]) -> Result<List<u8>, M
     let mut text = List::new(alloc);
     push_text(&mut text, b"elements ".as_slice())?;
     push_unsigned(&mut text, lines.len() as u64)?;
-    push_text(&mut text, b"\n".as_slice())?;
+    text.push(b'\n')?;
     push_elements(&mut text, lines)?;
     Ok(text)
 }
@@ -50,10 +50,10 @@ fn push_element(text: &mut List<u8>, line: &ElementLine) -> Result<(), Memory>
 {
     push_text(text, b"element ".as_slice())?;
     push_text(text, line.name.as_slice())?;
-    push_text(text, b" ".as_slice())?;
+    text.push(b' ')?;
     push_unsigned(text, u64::from(line.width))?;
-    push_text(text, b" ".as_slice())?;
+    text.push(b' ')?;
     push_unsigned(text, u64::from(line.height))?;
-    push_text(text, b"\n".as_slice())?;
+    text.push(b'\n')?;
     Ok(())
 }

@@ -19,10 +19,10 @@ pub fn push_heading(
 {
     push_text(text, word)?;
     push_side(text, side)?;
-    push_text(text, b" ".as_slice())?;
+    text.push(b' ')?;
     push_percent(text, percent)?;
-    push_text(text, b" ".as_slice())?;
+    text.push(b' ')?;
     push_unsigned(text, count as u64)?;
-    push_text(text, b"\n".as_slice())?;
+    text.push(b'\n')?;
     Ok(())
 }

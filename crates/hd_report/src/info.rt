@@ -48,9 +48,9 @@ fn push_size(text: &mut List<u8>, size: Size) -> Result<(), Memory>
 {
     push_text(text, b"size ".as_slice())?;
     push_unsigned(text, u64::from(size.points))?;
-    push_text(text, b" ".as_slice())?;
+    text.push(b' ')?;
     push_unsigned(text, u64::from(size.profiles))?;
-    push_text(text, b"\n".as_slice())?;
+    text.push(b'\n')?;
     Ok(())
 }
 
@@ -60,7 +60,7 @@ fn push_type(text: &mut List<u8>, data_type: DataType) -> Result<(), Memory>
 {
     push_text(text, b"type ".as_slice())?;
     push_text(text, code_text(data_type))?;
-    push_text(text, b"\n".as_slice())?;
+    text.push(b'\n')?;
     Ok(())
 }
 
@@ -96,7 +96,7 @@ fn push_count(text: &mut List<u8>, places: u8) -> Result<(), Memory>
 {
     push_text(text, b"places ".as_slice())?;
     push_unsigned(text, u64::from(places))?;
-    push_text(text, b"\n".as_slice())?;
+    text.push(b'\n')?;
     Ok(())
 }
 
@@ -106,7 +106,7 @@ fn push_present(text: &mut List<u8>, count: u32) -> Result<(), Memory>
 {
     push_text(text, b"present ".as_slice())?;
     push_unsigned(text, u64::from(count))?;
-    push_text(text, b"\n".as_slice())?;
+    text.push(b'\n')?;
     Ok(())
 }
 
@@ -127,7 +127,7 @@ fn push_ends(text: &mut List<u8>, range: HeightRange) -> Result<(), Memory>
 {
     push_height(text, b"range ".as_slice(), range.least)?;
     push_height(text, b" ".as_slice(), range.greatest)?;
-    push_text(text, b"\n".as_slice())?;
+    text.push(b'\n')?;
     Ok(())
 }
 
@@ -147,10 +147,10 @@ fn push_scales(text: &mut List<u8>, scales: &Scales<'_>) -> Result<(), Memory>
 {
     push_text(text, b"scales ".as_slice())?;
     push_text(text, scales.x)?;
-    push_text(text, b" ".as_slice())?;
+    text.push(b' ')?;
     push_text(text, scales.y)?;
-    push_text(text, b" ".as_slice())?;
+    text.push(b' ')?;
     push_text(text, scales.z)?;
-    push_text(text, b"\n".as_slice())?;
+    text.push(b'\n')?;
     Ok(())
 }

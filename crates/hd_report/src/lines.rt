@@ -26,6 +26,6 @@ pub fn refused_line(alloc: Global, number: u64, cause: &[u8]) -> Result<List<u8>
     push_unsigned(&mut text, number)?;
     push_text(&mut text, b" refused: ".as_slice())?;
     push_text(&mut text, cause)?;
-    push_text(&mut text, b"\n".as_slice())?;
+    text.push(b'\n')?;
     Ok(text)
 }

@@ -12,7 +12,7 @@ pub fn push_place(text: &mut List<u8>, at: Pos) -> Result<(), Memory>
     ensures { OnOk result (text.new ≡ text.old ++ place_text at) }
 {
     push_unsigned(text, u64::from(at.x))?;
-    push_text(text, b" ".as_slice())?;
+    text.push(b' ')?;
     push_unsigned(text, u64::from(at.y))?;
     Ok(())
 }
@@ -31,7 +31,7 @@ pub fn push_rank(text: &mut List<u8>, size: Size, point: Rank) -> Result<(), Mem
     ensures { OnOk result (text.new ≡ text.old ++ rank_text size point) }
 {
     push_point(text, size, point)?;
-    push_text(text, b" ".as_slice())?;
+    text.push(b' ')?;
     push_whole(text, point.height)?;
     Ok(())
 }

@@ -52,13 +52,13 @@ fn push_heading(
 {
     push_text(text, b"prune ".as_slice())?;
     push_side(text, side)?;
-    push_text(text, b" ".as_slice())?;
+    text.push(b' ')?;
     push_percent(text, percent)?;
-    push_text(text, b" ".as_slice())?;
+    text.push(b' ')?;
     push_unsigned(text, steps as u64)?;
-    push_text(text, b" ".as_slice())?;
+    text.push(b' ')?;
     push_unsigned(text, kept as u64)?;
-    push_text(text, b"\n".as_slice())?;
+    text.push(b'\n')?;
     Ok(())
 }
 
@@ -87,6 +87,6 @@ fn push_step(text: &mut List<u8>, size: Size, step: Step) -> Result<(), Memory>
     push_point(text, size, step.saddle)?;
     push_text(text, b" into ".as_slice())?;
     push_point(text, size, step.into)?;
-    push_text(text, b"\n".as_slice())?;
+    text.push(b'\n')?;
     Ok(())
 }

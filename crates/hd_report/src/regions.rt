@@ -27,7 +27,7 @@ pub fn list_regions(
     let mut text = List::with_capacity(alloc, regions.len().saturating_mul(REGION_BYTES))?;
     push_many(&mut text, side)?;
     push_unsigned(&mut text, regions.len() as u64)?;
-    push_text(&mut text, b"\n".as_slice())?;
+    text.push(b'\n')?;
     push_regions(&mut text, side, size, regions)?;
     Ok(text)
 }
@@ -80,9 +80,9 @@ fn push_region(
 {
     push_one(text, side)?;
     push_rank(text, size, region.pit)?;
-    push_text(text, b" ".as_slice())?;
+    text.push(b' ')?;
     push_unsigned(text, u64::from(region.points))?;
-    push_text(text, b"\n".as_slice())?;
+    text.push(b'\n')?;
     Ok(())
 }
 
@@ -93,10 +93,10 @@ pub fn tell_label(alloc: Global, side: SideName, at: Pos, pit: Pos) -> Result<Li
     let mut text = List::new(alloc);
     push_text(&mut text, b"label ".as_slice())?;
     push_side(&mut text, side)?;
-    push_text(&mut text, b" ".as_slice())?;
+    text.push(b' ')?;
     push_place(&mut text, at)?;
     push_text(&mut text, b" in ".as_slice())?;
     push_place(&mut text, pit)?;
-    push_text(&mut text, b"\n".as_slice())?;
+    text.push(b'\n')?;
     Ok(text)
 }

@@ -29,9 +29,9 @@ pub fn list_tree(
     let mut text = List::with_capacity(alloc, joins.len().saturating_mul(JOIN_BYTES))?;
     push_text(&mut text, b"tree ".as_slice())?;
     push_side(&mut text, side)?;
-    push_text(&mut text, b" ".as_slice())?;
+    text.push(b' ')?;
     push_unsigned(&mut text, joins.len() as u64)?;
-    push_text(&mut text, b"\n".as_slice())?;
+    text.push(b'\n')?;
     push_joins(&mut text, size, joins)?;
     Ok(text)
 }
@@ -56,7 +56,7 @@ fn push_join(text: &mut List<u8>, size: Size, join: &Join) -> Result<(), Memory>
     let parts = join.parts.as_slice();
     push_saddle(text, size, join.saddle, parts.len())?;
     push_parts(text, size, parts)?;
-    push_text(text, b"\n".as_slice())?;
+    text.push(b'\n')?;
     Ok(())
 }
 
@@ -67,7 +67,7 @@ fn push_saddle(text: &mut List<u8>, size: Size, saddle: Rank, count: usize) -> R
 {
     push_text(text, b"saddle ".as_slice())?;
     push_rank(text, size, saddle)?;
-    push_text(text, b" ".as_slice())?;
+    text.push(b' ')?;
     push_unsigned(text, count as u64)?;
     Ok(())
 }
@@ -78,7 +78,7 @@ fn push_parts(text: &mut List<u8>, size: Size, parts: &[Rank]) -> Result<(), Mem
     ensures { OnOk result (text.new ≡ text.old ++ flat_map (part_text size) parts.now) }
 {
     'parts: for part in parts {
-        push_text(text, b" ".as_slice())?;
+        text.push(b' ')?;
         push_point(text, size, *part)?;
     }
     Ok(())

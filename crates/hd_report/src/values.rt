@@ -65,12 +65,12 @@ pub fn tell_feature(alloc: Global, word: &[u8], value: Option<Frac>) -> Result<L
 pub fn push_value(text: &mut List<u8>, value: Option<Frac>) -> Result<(), Memory>
     ensures { OnOk result (text.new ≡ text.old ++ 32 ∷ [] ++ value_text value ++ 10 ∷ []) }
 {
-    push_text(text, b" ".as_slice())?;
+    text.push(b' ')?;
     match value {
         Some(value) => push_frac(text, value)?,
         None => push_text(text, b"none".as_slice())?,
     }
-    push_text(text, b"\n".as_slice())
+    text.push(b'\n')
 }
 
 // Adds a height with a space before it, or nothing.
@@ -78,7 +78,7 @@ fn push_height(text: &mut List<u8>, height: Option<i64>) -> Result<(), Memory>
     ensures { OnOk result (text.new ≡ text.old ++ height_text height) }
 {
     if let Some(height) = height {
-        push_text(text, b" ".as_slice())?;
+        text.push(b' ')?;
         push_whole(text, height)?;
     }
     Ok(())

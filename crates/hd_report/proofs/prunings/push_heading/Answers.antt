@@ -7,10 +7,10 @@ returns c =
     let old = c.args.text.now in
     let word = c.in_ok-push_text.ensures.ok ∙ ap (λ xs. old ++ xs) c.as_slice.ensures in
     let side = append-then old _ _ _ word c.in_ok-push_side.ensures refl in
-    let blank = append-then old _ _ _ side c.in_ok-push_text-2.ensures.ok c.as_slice-2.ensures in
+    let blank = append-then old _ _ _ side c.in_ok-push.ensures.ok refl in
     let percent = append-then old _ _ _ blank c.in_ok-push_percent.ensures.ok refl in
-    let second = append-then old _ _ _ percent c.in_ok-push_text-3.ensures.ok c.as_slice-3.ensures in
+    let second = append-then old _ _ _ percent c.in_ok-push-2.ensures.ok refl in
     let steps = append-then old _ _ _ second c.in_ok-push_unsigned.ensures.ok refl in
-    let third = append-then old _ _ _ steps c.in_ok-push_text-4.ensures.ok c.as_slice-4.ensures in
+    let third = append-then old _ _ _ steps c.in_ok-push-3.ensures.ok refl in
     let kept = append-then old _ _ _ third c.in_ok-push_unsigned-2.ensures.ok refl in
-    append-then old _ _ _ kept c.in_ok-push_text-5.ensures.ok c.as_slice-5.ensures
+    append-then old _ _ _ kept c.in_ok-push-4.ensures.ok refl

@@ -16,4 +16,4 @@ returns c =
     let saddle = append-then old _ _ _ third c.in_ok-push_point-2.ensures refl in
     let fourth = append-then old _ _ _ saddle c.in_ok-push_text-4.ensures.ok c.as_slice-4.ensures in
     let into = append-then old _ _ _ fourth c.in_ok-push_point-3.ensures refl in
-    append-then old _ _ _ into c.in_ok-push_text-5.ensures.ok c.as_slice-5.ensures
+    append-then old _ _ _ into c.in_ok-push.ensures.ok refl
