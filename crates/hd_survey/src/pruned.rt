@@ -15,7 +15,7 @@ use crate::merges::PitMerges;
 use crate::owned::owned_sizes;
 use crate::view::SideView;
 use hd_list::{List, Memory};
-use hd_map::{HeightRange, Heights, RegionSize, Side, presence_of};
+use hd_map::{HeightRange, Heights, RegionSize, Side, presence_by_rows};
 use hd_num::Percent;
 use hd_prune::{Pruned, Step, height_span, prune_by_merges};
 use std::alloc::Global;
@@ -46,7 +46,7 @@ pub fn pruned_side<S: Side, G: Heights>(
     ensures findings { AreFindings (G.map grid.now) S.NAME findings.new }
 {
     let view = GridView::<S, G>::new(alloc, grid)?;
-    let range = presence_of(grid).range;
+    let range = presence_by_rows(alloc, grid)?.range;
     pruned_side_by::<S, G, GridView<'_, S, G>>(alloc, grid, &view, findings, percent, range)
 }
 

@@ -37,7 +37,7 @@ pub fn parameter_value<G: Heights>(
     ensures value { IfOk result (IsParameterValue (G.map grid.now) parameter.now) }
     ensures survey { IsSurvey (G.map grid.now) survey.new }
 {
-    let presence = survey.presence(grid);
+    let presence = survey.find_presence(alloc, grid)?;
     match parameter {
         Parameter::One(notation) => value_among(alloc, grid, survey, notation, presence),
         Parameter::Sum(first, second) => {
@@ -60,7 +60,7 @@ pub fn notation_value<G: Heights>(
     ensures value { IfOk result (IsNotationValue (G.map grid.now) notation.now) }
     ensures survey { IsSurvey (G.map grid.now) survey.new }
 {
-    let presence = survey.presence(grid);
+    let presence = survey.find_presence(alloc, grid)?;
     value_among(alloc, grid, survey, notation, presence)
 }
 
@@ -79,7 +79,7 @@ pub fn notation_regions<G: Heights>(
     ensures heights { IfOk result (All (λ r. unsigned_abs r.lpvh ≤ farthest_apart)) }
     ensures few { IfOk result (λ list. length list ≤ 4194304) }
 {
-    let range = survey.presence(grid).range;
+    let range = survey.find_presence(alloc, grid)?.range;
     kind_features(alloc, grid, survey, notation, range)
 }
 
