@@ -74,10 +74,29 @@ fn leading_number(reading: Reading, text: &[u8]) -> Option<(u64, &[u8])>
 {
     let (count, number) = leading_digits(reading, text)?;
     let (_, rest) = text.split_at(count);
-    if count == 0 || !ends_token(rest) {
+    if count == 0 || !begins_gap(rest) {
         return None;
     }
     Some((number, rest))
+}
+
+// Whether a text begins with a blank or an LF. Most often that is a space.
+#[inline(always)]
+fn begins_gap(text: &[u8]) -> bool
+    requires { 0 < length text.now }
+    ensures { IsTrue result → is_gap (slice_index text.now 0) ≡ true }
+{
+    text[0] == b' ' || is_rare_gap(text[0])
+}
+
+// Whether a byte is a blank or an LF: away from the loop that reads the data, which then has one
+// comparison for each of them.
+#[cold]
+#[inline(never)]
+fn is_rare_gap(byte: u8) -> bool
+    ensures { result ≡ is_gap byte }
+{
+    is_gap(byte)
 }
 
 // How many digits a text begins with, and the number that they write, where they are not too many.
