@@ -1,3 +1,3 @@
 """The version of hilldale-lab, which is that of pyproject.toml."""
 
-VERSION = "1.1.0"
+VERSION = "1.1.1"
